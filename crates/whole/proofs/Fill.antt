@@ -1,0 +1,74 @@
+-- Laws of `filled`: its length, each of its places, how it grows by one store, and what it depends on.
+use mathlib.Core.Path.{_≡_, refl, _∙_}
+use mathlib.Core.List.{List}
+use mathlib.Core.Logic.{⊎-elim}
+use Prim.Native.Nat.{ℕ, zero, suc, _+_, _≤_, _<_}
+use native.Mathlib.Nat.{eq-or-lt-of-le, add-assoc, add-suc, add-zero}
+use native.Mathlib.Numerals.{add-one}
+use native.Mathlib.Omega.{arith}
+use lib.ListN.{length, getD, set, length-set}
+use lib.Seq.{getD-set-same, getD-set-other}
+use Rattle.whole.specs.Fill.{filled}
+
+module _ {A : Type 0} (f : ℕ → A) (i : ℕ) where
+  pub filled-length : (n : ℕ) (xs : List A) → length (filled f i n xs) ≡ length xs
+  unfolding filled
+  filled-length zero xs = refl
+  filled-length (suc n) xs = length-set (filled f i n xs) (i + n) (f (i + n)) ∙ filled-length n xs
+
+  -- ---- each place
+  pub filled-before : (n : ℕ) (xs : List A) (k : ℕ) (z : A) → k < i → getD (filled f i n xs) k z ≡ getD xs k z
+  unfolding filled
+  filled-before zero xs k z l = refl
+  filled-before (suc n) xs k z l =
+      getD-set-other (filled f i n xs) (i + n) k (f (i + n)) z (λ e. omega arith) ∙ filled-before n xs k z l
+
+  pub filled-beyond : (n : ℕ) (xs : List A) (k : ℕ) (z : A) → i + n ≤ k → getD (filled f i n xs) k z ≡ getD xs k z
+  unfolding filled
+  filled-beyond zero xs k z l = refl
+  filled-beyond (suc n) xs k z l =
+      getD-set-other (filled f i n xs) (i + n) k (f (i + n)) z (λ e. omega arith) ∙ filled-beyond n xs k z (omega arith)
+
+  pub filled-at : (n : ℕ) (xs : List A) (k : ℕ) (z : A) → i ≤ k → k < i + n → k < length xs →
+      getD (filled f i n xs) k z ≡ f k
+  unfolding filled
+  filled-at zero xs k z l r m = absurd (omega arith)
+  filled-at (suc n) xs k z l r m =
+      ⊎-elim
+      (λ e. rw e (getD-set-same (filled f i n xs) (i + n) (f (i + n)) z (omega (arith, filled-length n xs))))
+      (λ s. getD-set-other (filled f i n xs) (i + n) k (f (i + n)) z (λ e. omega arith) ∙ filled-at n xs k z l s m)
+      (eq-or-lt-of-le {n = k} {m = i + n} (omega arith))
+
+  -- ---- a loop that fills: its start, one store more, its end
+  pub filled-none : (xs : List A) → xs ≡ filled f i 0 xs
+  unfolding filled
+  filled-none xs = refl
+
+  pub filled-more : (n : ℕ) (xs out : List A) (v : A) → out ≡ filled f i n xs → v ≡ f (i + n) →
+      set out (i + n) v ≡ filled f i (n + 1) xs
+  unfolding filled
+  filled-more n xs out v p q = rw (p, q, add-one) refl
+
+  pub filled-to : (n m : ℕ) (xs out : List A) → n ≡ m → out ≡ filled f i n xs → out ≡ filled f i m xs
+  filled-to n m xs out e p = rw (← e) p
+
+  -- ---- two rows end to end
+  pub filled-join : (n m : ℕ) (xs : List A) → filled f (i + n) m (filled f i n xs) ≡ filled f i (n + m) xs
+  unfolding filled
+  filled-join n zero xs = rw add-zero refl
+  filled-join n (suc m) xs = rw (filled-join n m xs, add-assoc i n m, add-suc) refl
+
+-- one store more, where the loop's counter is the number of stores and the place at once
+pub filled-next : {A : Type 0} (f : ℕ → A) (n : ℕ) (xs out : List A) (v : A) → out ≡ filled f 0 n xs → v ≡ f n →
+    set out n v ≡ filled f 0 (n + 1) xs
+filled-next f n xs out v p q =
+    let z : 0 + n ≡ n = omega arith in
+    rw z at (filled-more f 0 n xs out v p (rw z q))
+
+-- ---- only what f is at the filled places counts
+pub filled-cong : {A : Type 0} (f g : ℕ → A) (i n : ℕ) (xs : List A) → ((k : ℕ) → i ≤ k → k < i + n → f k ≡ g k) →
+    filled f i n xs ≡ filled g i n xs
+unfolding filled
+filled-cong f g i zero xs h = refl
+filled-cong f g i (suc n) xs h =
+    rw (filled-cong f g i n xs (λ k l r. h k l (omega arith)), h (i + n) (omega arith) (omega arith)) refl
