@@ -1,0 +1,70 @@
+-- The ranges of document 01.
+use Prim.Native.Nat.{ℕ}
+use lib.IntN.{ℤ, pos, negℤ}
+
+-- speeds in km/h
+abbrev pub leastSpeed : ℕ
+leastSpeed = 20
+
+abbrev pub greatestSpeed : ℕ
+greatestSpeed = 130
+
+-- the last purpose of the table of reaction times
+abbrev pub lastPurpose : ℕ
+lastPurpose = 5
+
+-- a road: its decision purposes begin at 1; its length in metres, its start height in h-units, its grades in hundredths of a
+-- percent up or down, its number of curves and the length of one in metres
+abbrev pub firstDecision : ℕ
+firstDecision = 1
+
+abbrev pub greatestRoad : ℕ
+greatestRoad = 8000
+
+abbrev pub lowestStart : ℤ
+lowestStart = negℤ (pos 10000000)
+
+abbrev pub highestStart : ℤ
+highestStart = pos 90000000
+
+abbrev pub greatestGrade : ℕ
+greatestGrade = 1500
+
+abbrev pub greatestCurveCount : ℕ
+greatestCurveCount = 32
+
+abbrev pub greatestCurve : ℕ
+greatestCurve = 2000
+
+-- a crest: its drop in grade in hundredths of a percent, its sight distance and its length in metres
+abbrev pub greatestDrop : ℕ
+greatestDrop = 3000
+
+abbrev pub greatestSightDistance : ℕ
+greatestSightDistance = 800
+
+abbrev pub greatestCrest : ℕ
+greatestCrest = 2000
+
+-- the height of an eye or an object in h-units
+abbrev pub greatestHeight : ℕ
+greatestHeight = 50000
+
+-- a list of heights or marks: the stations of the longest road
+abbrev pub greatestList : ℕ
+greatestList = 8001
+
+-- the farthest distance that is looked at, in metres
+abbrev pub greatestFarthest : ℕ
+greatestFarthest = 8000
+
+-- the last bit of a mark
+abbrev pub lastBit : ℕ
+lastBit = 4
+
+-- the heights of the eye, 1.08 m, and of the object, 0.60 m, in h-units, that a road is marked with
+abbrev pub eyeHeight : ℕ
+eyeHeight = 10800
+
+abbrev pub objectHeight : ℕ
+objectHeight = 6000

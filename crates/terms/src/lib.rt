@@ -1,0 +1,110 @@
+// The answer of every operation whose result is a number, and the limits and refusal numbers of document 01 as the code
+// names them. specs/Limits.antt and specs/Refusals.antt give the definitions the same numbers under the same names.
+
+// The value, or the number of the refusal.
+pub enum Answer {
+    Number(u32),
+    Refused(u8),
+}
+
+// Whether a road is accepted, or the number of its first fault.
+pub enum Verdict {
+    Accepted,
+    Fault(u8),
+}
+
+// ---- refusals
+pub const SHORT_FILE_REFUSED: u8 = 1;
+
+pub const LETTERS_REFUSED: u8 = 2;
+
+pub const VERSION_REFUSED: u8 = 3;
+
+pub const CURVE_COUNT_REFUSED: u8 = 4;
+
+pub const TOTAL_REFUSED: u8 = 5;
+
+pub const SPEED_REFUSED: u8 = 6;
+
+pub const PURPOSE_REFUSED: u8 = 7;
+
+pub const ROAD_LENGTH_REFUSED: u8 = 8;
+
+pub const START_REFUSED: u8 = 9;
+
+pub const GRADE_REFUSED: u8 = 10;
+
+pub const CURVE_LENGTH_REFUSED: u8 = 11;
+
+pub const CURVE_PLACE_REFUSED: u8 = 12;
+
+pub const CURVE_ORDER_REFUSED: u8 = 13;
+
+pub const ROOM_REFUSED: u8 = 14;
+
+pub const DROP_REFUSED: u8 = 15;
+
+pub const SIGHT_DISTANCE_REFUSED: u8 = 16;
+
+pub const HEIGHT_REFUSED: u8 = 17;
+
+pub const NO_LENGTH_REFUSED: u8 = 18;
+
+pub const LIST_REFUSED: u8 = 19;
+
+pub const STATION_REFUSED: u8 = 20;
+
+pub const FARTHEST_REFUSED: u8 = 21;
+
+pub const BIT_REFUSED: u8 = 22;
+
+pub const ZONE_ROOM_REFUSED: u8 = 23;
+
+// ---- limits
+// Speeds in km/h.
+pub const LEAST_SPEED: u32 = 20;
+
+pub const GREATEST_SPEED: u32 = 130;
+
+// The last purpose of the table of reaction times.
+pub const LAST_PURPOSE: u32 = 5;
+
+// A road: its decision purposes begin at 1; its length in metres, its start height in h-units, its grades in hundredths
+// of a percent up or down, its number of curves and the length of one in metres.
+pub const FIRST_DECISION: u32 = 1;
+
+pub const GREATEST_ROAD: u32 = 8000;
+
+pub const LOWEST_START: i32 = -10000000;
+
+pub const HIGHEST_START: i32 = 90000000;
+
+pub const GREATEST_GRADE: i16 = 1500;
+
+pub const GREATEST_CURVE_COUNT: u8 = 32;
+
+pub const GREATEST_CURVE: u16 = 2000;
+
+// A crest: its drop in grade, in hundredths of a percent; its sight distance and its length, in metres.
+pub const GREATEST_DROP: u32 = 3000;
+
+pub const GREATEST_SIGHT_DISTANCE: u32 = 800;
+
+pub const GREATEST_CREST: u32 = 2000;
+
+// The height of an eye or an object, in h-units.
+pub const GREATEST_HEIGHT: u32 = 50000;
+
+// A list of heights or marks: the stations of the longest road.
+pub const GREATEST_LIST: usize = 8001;
+
+// The farthest distance that is looked at, in metres.
+pub const GREATEST_FARTHEST: u32 = 8000;
+
+// The last bit of a mark.
+pub const LAST_BIT: u32 = 4;
+
+// The heights of the eye, 1.08 m, and of the object, 0.60 m, in h-units, that a road is marked with.
+pub const EYE: u32 = 10800;
+
+pub const OBJECT: u32 = 6000;
