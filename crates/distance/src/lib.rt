@@ -1,0 +1,82 @@
+// Document 01, "Distances a driver needs": the required sight distance.
+ghost use mathlib.Core.Path.{_≡_};
+ghost use Prim.Native.Nat.{_<_, _≤_, _*_};
+ghost use Rattle.terms.specs.Limits.{greatestSpeed};
+ghost use Rattle.distance.specs.Distance.{requiredDistance, levelParts, upToFive};
+use terms::Answer;
+
+// A purpose's reaction time in tenths of a second, and whether the braking term counts.
+pub struct Purpose {
+    pub reaction: u64,
+    pub braking: bool,
+}
+
+// Stopping, then decision A to E.
+const PURPOSES: [Purpose; 6] = [
+    Purpose {
+        reaction: 25,
+        braking: true,
+    },
+    Purpose {
+        reaction: 30,
+        braking: true,
+    },
+    Purpose {
+        reaction: 91,
+        braking: true,
+    },
+    Purpose {
+        reaction: 112,
+        braking: false,
+    },
+    Purpose {
+        reaction: 129,
+        braking: false,
+    },
+    Purpose {
+        reaction: 145,
+        braking: false,
+    },
+];
+
+// One metre of the level distance, in the parts that `level_parts` counts.
+const PARTS: u64 = 170000;
+
+// The distance on a level road before rounding: 0.278 V T + 0.039 V² / 3.4 metres, in parts of which 170,000 make one.
+fn level_parts(speed: u64, row: Purpose) -> u64
+    requires { ⌜ (speed ≤ greatestSpeed) × (row .reaction ≤ 145) ⌝ }
+    ensures { λ r. ⌜ r ≡ levelParts speed row ⌝ }
+{
+    let reacting = 4726 * speed * row.reaction;
+    if row.braking {
+        return reacting + 1950 * speed * speed;
+    }
+    reacting
+}
+
+// `num / den` metres, rounded up to a multiple of 5 m.
+fn up_to_five(num: u64, den: u64) -> u64
+    requires { ⌜ (0 < den) × (num < 1000000000000000000) × (den < 1000000000000000000) ⌝ }
+    ensures { λ r. ⌜ r ≡ upToFive num den ⌝ }
+{
+    let five = 5 * den;
+    5 * ((num + (five - 1)) / five)
+}
+
+// The distance that a driver at `speed` km/h needs for a purpose: 0 stopping, 1 to 5 decision A to E.
+pub fn required_distance(speed: u32, purpose: u32) -> Answer
+    ensures { λ r. ⌜ r ≡ requiredDistance speed purpose ⌝ }
+{
+    if speed < terms::LEAST_SPEED {
+        return Answer::Refused(terms::SPEED_REFUSED);
+    }
+    if terms::GREATEST_SPEED < speed {
+        return Answer::Refused(terms::SPEED_REFUSED);
+    }
+    if terms::LAST_PURPOSE < purpose {
+        return Answer::Refused(terms::PURPOSE_REFUSED);
+    }
+    let at = purpose as usize;
+    let parts = level_parts(speed as u64, PURPOSES[at]);
+    Answer::Number(up_to_five(parts, PARTS) as u32)
+}
