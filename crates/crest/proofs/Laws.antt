@@ -1,0 +1,250 @@
+-- Laws of the crest's definitions: what the squared form means, that adequacy never falls away as the length grows, and
+-- that the answer is the least even adequate length.
+use Prim.Native.Nat.{ℕ, zero, suc, _+_, _*_, _-_, _/_, _%_, _≤_, _<_, zero-le}
+use native.Mathlib.Nat.{mul-le-mul, mul-le-mul-left, mul-le-mul-right, mul-sub, mul-mul-mul-comm}
+use native.Mathlib.Omega.{arith}
+use mathlib.Core.Path.{_≡_, refl, sym, ap, subst, _∙_}
+use mathlib.Core.Bool.{Bool, true, false, cond, _||_}
+use mathlib.Core.Logic.{_↔_, _⊎_, inl, inr, ⊎-elim}
+use borrow.Author.Tests.{le-leb, lt-ltb, le-ltb, leb-true, leb-false, ltb-true}
+use lib.Dec.{T, leb, ltb, leb→le, le→leb}
+use lib.IntN.{pos, negsuc, _-ℤ_, _*ℤ_, subℕ}
+use lib.Signed.{_≤ℤ_}
+use Rattle.terms.specs.Answers.{AtMost, outside, refuse}
+use Rattle.terms.specs.Limits.{greatestDrop, greatestSightDistance, greatestHeight, greatestCrest}
+use Rattle.terms.specs.Refusals.{dropRefused, sightDistanceRefused, heightRefused, noLengthRefused}
+use Rattle.terms.specs.declared.Answer.{Answer}
+use Rattle.terms.specs.declared.Answer.the-variants.{Number, Refused}
+use Rattle.crest.specs.Crest.{withinRoot, adequate, leastEven, crestLength}
+
+-- ---- the root
+
+sign-in-square : (c : Bool) (x y z : ℕ) → leb x y ≡ c → (c || leb ((x - y) * (x - y)) z) ≡ leb ((x - y) * (x - y)) z
+sign-in-square true x y z p = let q : x - y ≡ 0 = omega (arith, leb-true x y p) in rw q (sym (le-leb 0 z zero-le))
+sign-in-square false x y z p = refl
+
+-- with a difference that stops at 0 the sign needs no test of its own
+pub within-root-square : (x y z : ℕ) → withinRoot x y z ≡ leb ((x - y) * (x - y)) z
+unfolding withinRoot
+within-root-square x y z = sign-in-square (leb x y) x y z refl
+
+-- so the test is one inequality of naturals, either way
+within-root-to : (x y z : ℕ) → T (withinRoot x y z) → (x - y) * (x - y) ≤ z
+within-root-to x y z t = leb→le _ _ (rw within-root-square at t)
+
+within-root-by : (x y z : ℕ) → (x - y) * (x - y) ≤ z → T (withinRoot x y z)
+within-root-by x y z h = rw within-root-square (le→leb _ _ h)
+
+-- the difference of two naturals, by its sign
+pos-sub : (x y : ℕ) → pos x -ℤ pos y ≡ subℕ x y
+pos-sub x zero = simp (le-ltb x 0 zero-le) (ap pos (omega arith))
+pos-sub x (suc y) = refl
+
+within-root-is-cases :
+    (c : Bool) (x y z : ℕ) → ltb x y ≡ c →
+    let d = cond c (negsuc (y - suc x)) (pos (x - y)) in T (withinRoot x y z) ↔ ((d ≤ℤ pos 0) ⊎ ((d *ℤ d) ≤ℤ pos z))
+within-root-is-cases true x y z p =
+    let q : x - y ≡ 0 = omega (arith, ltb-true x y p) in
+    ((λ t. inl (record { le = tt })), λ h. within-root-by x y z (rw q zero-le))
+within-root-is-cases false x y z p = (
+  (λ t. inr (record { le = le→leb _ _ (within-root-to x y z t) })),
+  ⊎-elim
+      (λ h. let q : x - y ≡ 0 = omega (arith, leb→le (x - y) 0 (h .le)) in within-root-by x y z (rw q zero-le))
+      (λ h. within-root-by x y z (leb→le _ _ (h .le))),
+)
+
+-- the squared form is X ≤ √z for X = x − y, put without the root
+pub within-root-is : (x y z : ℕ) → let d = pos x -ℤ pos y in T (withinRoot x y z) ↔ ((d ≤ℤ pos 0) ⊎ ((d *ℤ d) ≤ℤ pos z))
+within-root-is x y z = rw (pos-sub x y) (within-root-is-cases (ltb x y) x y z refl)
+
+-- a smaller x, a larger y or a larger z keeps it
+pub within-root-mono :
+    (x y z : ℕ) {x′ y′ z′ : ℕ} → x′ ≤ x → y ≤ y′ → z ≤ z′ →
+    T (withinRoot x y z) → T (withinRoot x′ y′ z′)
+within-root-mono x y z {x′} {y′} {z′} p q r t =
+    let d : x′ - y′ ≤ x - y = omega arith in
+    within-root-by x′ y′ z′ (omega (arith, mul-le-mul d d, within-root-to x y z t))
+
+-- both sides may be multiplied by k
+pub within-root-scale : (k x y z : ℕ) → T (withinRoot x y z) → T (withinRoot (k * x) (k * y) (k * k * z))
+within-root-scale k x y z t =
+    within-root-by (k * x) (k * y) (k * k * z)
+    (rw (← mul-sub, mul-mul-mul-comm) (mul-le-mul-left (k * k) (within-root-to x y z t)))
+
+-- ---- adequacy
+
+-- by where the two lengths lie: both from the sight distance on, either side of it, or both below it
+adequate-mono-cases :
+    (a s u v l m : ℕ) (c d : Bool) → l ≤ m → leb s l ≡ c → leb s m ≡ d →
+    T (cond c (withinRoot (a * (s * s)) (l * u) (l * l * v)) (withinRoot (a * (2 * s - l)) u v)) →
+    T (cond d (withinRoot (a * (s * s)) (m * u) (m * m * v)) (withinRoot (a * (2 * s - m)) u v))
+adequate-mono-cases a s u v l m true true h p q t =
+    within-root-mono (a * (s * s)) (l * u) (l * l * v) (omega arith) (mul-le-mul-right u h) (mul-le-mul-right v (mul-le-mul h h)) t
+adequate-mono-cases a s u v l m true false h p q t = absurd (omega (arith, leb-true s l p, leb-false s m q))
+adequate-mono-cases a s u v l m false true h p q t =
+    let g : s ≤ m = leb-true s m q in
+    let k : s ≤ 2 * s - l = omega (arith, leb-false s l p) in
+    within-root-mono (s * (a * s)) (s * u) (s * s * v) (omega arith) (mul-le-mul-right u g) (mul-le-mul-right v (mul-le-mul g g))
+    (within-root-scale s (a * s) u v (within-root-mono (a * (2 * s - l)) u v (mul-le-mul-left a k) (omega arith) (omega arith) t))
+adequate-mono-cases a s u v l m false false h p q t =
+    let k : 2 * s - m ≤ 2 * s - l = omega arith in
+    within-root-mono (a * (2 * s - l)) u v (mul-le-mul-left a k) (omega arith) (omega arith) t
+
+-- a longer crest is adequate where a shorter one is, whatever Q = u + √v
+pub adequate-mono : (a s u v l m : ℕ) → l ≤ m → T (adequate a s u v l) → T (adequate a s u v m)
+unfolding adequate
+adequate-mono a s u v l m h t = adequate-mono-cases a s u v l m (leb s l) (leb s m) h refl refl t
+
+-- ---- the least even length
+
+-- r = l + 2 k passes the test for some k below n, and l + 2 j fails for each j below k
+pub record First (test : ℕ → Bool) (l n r : ℕ) : Type 0 where
+  pub index : ℕ
+  pub within : index < n
+  pub place : r ≡ l + 2 * index
+  pub passes : T (test r)
+  pub before : (j : ℕ) → j < index → T (test (l + 2 * j)) → ⊥
+
+-- what an answer says of the lengths l, l + 2, …, l + 2 (n − 1): a number is the first that passes, 18 that none does
+abbrev pub FirstEven : (ℕ → Bool) → ℕ → ℕ → Answer → Type 0
+FirstEven test l n (Number r) = First test l n r
+FirstEven test l n (Refused k) = (k ≡ noLengthRefused) × ((j : ℕ) → j < n → T (test (l + 2 * j)) → ⊥)
+
+module _ (test : ℕ → Bool) where
+  -- a failure at l before those from l + 2 on
+  fails-from :
+      (l n : ℕ) → test l ≡ false → ((j : ℕ) → j < n → T (test (l + 2 + 2 * j)) → ⊥) →
+      (j : ℕ) → j < suc n → T (test (l + 2 * j)) → ⊥
+  fails-from l n p f zero h t = let q : l + 2 * 0 ≡ l = omega arith in rw (q, p) at t
+  fails-from l n p f (suc j) h t = f j (omega arith) (subst (λ (x : ℕ). T (test x)) (omega arith) t)
+
+  -- one length more in front
+  first-even-step :
+      (c : Bool) (x : Answer) (l n : ℕ) → test l ≡ c → FirstEven test (l + 2) n x →
+      FirstEven test l (suc n) (cond c (Number l) x)
+  first-even-step true x l n p i =
+      record { index = 0; within = omega arith; place = omega arith; passes = rw p tt; before = λ j h t. omega arith }
+  first-even-step false (Number r) l n p i =
+      record {
+        index = suc (i .index);
+        within = omega arith;
+        place = omega arith;
+        passes = i .passes;
+        before = fails-from l (i .index) p (i .before);
+      }
+  first-even-step false (Refused k) l n p i = (i .0, fails-from l n p (i .1))
+
+  -- the answer is the first length that passes, or 18 where none does
+  pub least-even-is : (l n : ℕ) → FirstEven test l n (leastEven test l n)
+  unfolding leastEven
+  least-even-is l zero = (refl, λ j h t. omega arith)
+  least-even-is l (suc n) = first-even-step (test l) (leastEven test (l + 2) n) l n refl (least-even-is (l + 2) n)
+
+  -- two answers are one: neither is before the other
+  no-earlier : (l n r q : ℕ) (f : First test l n r) (g : First test l n q) → f .index < g .index → ⊥
+  no-earlier l n r q f g h = g .before (f .index) h (rw (f .place) at (f .passes))
+
+  first-even-unique : (l n : ℕ) (x y : Answer) → FirstEven test l n x → FirstEven test l n y → x ≡ y
+  first-even-unique l n (Number r) (Number q) f g =
+      ap Number (omega (arith, no-earlier l n r q f g, no-earlier l n q r g f))
+  first-even-unique l n (Number r) (Refused k) f g = absurd (g .1 (f .index) (f .within) (rw (f .place) at (f .passes)))
+  first-even-unique l n (Refused k) (Number r) f g = absurd (f .1 (g .index) (g .within) (rw (g .place) at (g .passes)))
+  first-even-unique l n (Refused k) (Refused j) f g = ap Refused (f .0 ∙ sym (g .0))
+
+  -- and no other answer is so
+  pub least-even-only : (l n : ℕ) (x : Answer) → FirstEven test l n x → x ≡ leastEven test l n
+  least-even-only l n x f = first-even-unique l n x (leastEven test l n) f (least-even-is l n)
+
+-- ---- the crest's length
+
+-- the test of a crest's lengths, with its own Q
+abbrev pub crestTest : ℕ → ℕ → ℕ → ℕ → ℕ → Bool
+crestTest a s e o = adequate a s (2 * (e + o)) (16 * e * o)
+
+-- a, S, e and o are in document 01's ranges
+pub record InRange (a s e o : ℕ) : Type 0 where
+  pub drop : (1 ≤ a) × (a ≤ greatestDrop)
+  pub sight : (1 ≤ s) × (s ≤ greatestSightDistance)
+  pub eye : (1 ≤ e) × (e ≤ greatestHeight)
+  pub object : (1 ≤ o) × (o ≤ greatestHeight)
+
+-- x is outside 1 to high, on either side, or inside
+module _ (high x : ℕ) where
+  pub outside-below : x < 1 → outside 1 high x ≡ true
+  outside-below h = simp (lt-ltb x 1 h)
+
+  pub outside-above : (1 ≤ x) × (high < x) → outside 1 high x ≡ true
+  outside-above h = simp (le-ltb x 1 (h .0), lt-ltb high x (h .1))
+
+  pub not-outside : (1 ≤ x) × (x ≤ high) → outside 1 high x ≡ false
+  not-outside h = simp (le-ltb x 1 (h .0), le-ltb high x (h .1))
+
+-- in the ranges the answer is that of the search
+pub crest-length-in-range :
+    (a s e o : ℕ) → InRange a s e o →
+    crestLength a s e o ≡ leastEven (crestTest a s e o) 0 (greatestCrest / 2 + 1)
+unfolding crestLength
+crest-length-in-range a s e o h =
+    simp (
+      not-outside greatestDrop a (h .drop),
+      not-outside greatestSightDistance s (h .sight),
+      not-outside greatestHeight e (h .eye),
+      not-outside greatestHeight o (h .object),
+    )
+
+-- r is even, at most 2,000 and adequate, and no lesser even length is adequate
+pub record Least (a s e o r : ℕ) : Type 0 where
+  pub even : r % 2 ≡ 0
+  pub within : r ≤ greatestCrest
+  pub passes : T (crestTest a s e o r)
+  pub least : (m : ℕ) → m % 2 ≡ 0 → m < r → T (crestTest a s e o m) → ⊥
+
+-- a number is no refusal, so it is the rest's answer
+refuse-number : (c : Bool) (k r : ℕ) (x : Answer) → refuse c k x ≡ Number r → x ≡ Number r
+refuse-number true k r x p = absurd (let z : _≡_ {A = ℕ} 0 1 = cc in omega arith)
+refuse-number false k r x p = p
+
+first-least : (a s e o r : ℕ) → First (crestTest a s e o) 0 (greatestCrest / 2 + 1) r → Least a s e o r
+first-least a s e o r f =
+    record {
+      even = omega arith;
+      within = omega arith;
+      passes = f .passes;
+      least = λ m q h t. f .before (m / 2) (omega arith) (subst (λ (x : ℕ). T (crestTest a s e o x)) (omega arith) t);
+    }
+
+-- a length that is answered is the least even adequate one up to 2,000
+pub crest-length-number : (a s e o r : ℕ) → crestLength a s e o ≡ Number r → Least a s e o r
+unfolding crestLength
+crest-length-number a s e o r p =
+    let test = crestTest a s e o in
+    let n = greatestCrest / 2 + 1 in
+    first-least a s e o r
+    (subst (FirstEven test 0 n)
+    (refuse-number (outside 1 greatestHeight e || outside 1 greatestHeight o) heightRefused r _
+    (refuse-number (outside 1 greatestSightDistance s) sightDistanceRefused r _
+    (refuse-number (outside 1 greatestDrop a) dropRefused r _ p)))
+    (least-even-is test 0 n))
+
+-- so it is at most 2,000
+pub crest-length-at-most : (a s e o : ℕ) → AtMost greatestCrest (crestLength a s e o)
+crest-length-at-most a s e o = go (crestLength a s e o) refl
+  where
+    go : (x : Answer) → crestLength a s e o ≡ x → AtMost greatestCrest x
+    go (Number r) p = crest-length-number a s e o r p .within
+    go (Refused k) p = tt
+
+-- 18 is said exactly where no even length up to 2,000 is adequate
+pub crest-length-none :
+    (a s e o : ℕ) → InRange a s e o →
+    (crestLength a s e o ≡ Refused noLengthRefused) ↔
+    ((m : ℕ) → m % 2 ≡ 0 → m ≤ greatestCrest → T (crestTest a s e o m) → ⊥)
+crest-length-none a s e o h =
+    let test = crestTest a s e o in
+    let n = greatestCrest / 2 + 1 in
+    let q = crest-length-in-range a s e o h in (
+      (λ p m w l t.
+          subst (FirstEven test 0 n) (sym q ∙ p) (least-even-is test 0 n) .1 (m / 2) (omega arith)
+          (subst (λ (x : ℕ). T (test x)) (omega arith) t)),
+      λ f. q ∙ sym (least-even-only test 0 n (Refused noLengthRefused) (refl, λ j l t. f (0 + 2 * j) (omega arith) (omega arith) t)),
+    )

@@ -1,0 +1,141 @@
+-- A binary search over half lengths. The invariant: every half length below `low` is inadequate, and `high` is adequate
+-- or past the last. The measure is what lies between. A test of the middle moves one end, since adequacy never falls
+-- away as the length grows (`adequate-mono`); where the ends meet they are the first that passes, and the definition has
+-- no other answer (`least-even-only`).
+use Prim.Native.Nat.{ℕ, _≤_, _<_, _-_, _+_, _*_, _/_}
+use native.Mathlib.Omega.{arith}
+use mathlib.Core.Bool.{Bool, true, false}
+use mathlib.Core.Path.{_≡_, refl, sym, subst, _∙_}
+use borrow.Author.Needs.{needs}
+use lib.Dec.{T}
+use Rattle.terms.specs.Limits.{greatestCrest}
+use Rattle.terms.specs.Refusals.{noLengthRefused}
+use Rattle.terms.specs.declared.Answer.the-variants.{Number, Refused}
+use Rattle.crest.specs.Crest.{adequate, leastEven}
+use Rattle.crest.proofs.Laws.{adequate-mono, least-even-only}
+use Rattle.crest.proofs.least_even.Statement.{statement}
+use Rattle.crest.proofs.least_even.Tie as tie
+
+record Searched (test : ℕ → Bool) (low high : ℕ) : Type 0 where
+  ordered : low ≤ high
+  within : high ≤ greatestCrest / 2 + 1
+  below : (j : ℕ) → j < low → T (test (2 * j)) → ⊥
+  found : high ≤ greatestCrest / 2 → T (test (2 * high))
+
+module _ (a s u v low high : ℕ) (i : Searched (adequate a s u v) low high) where
+  lowered :
+      (half : ℕ) → low ≤ half → half < high → adequate a s u v (2 * half) ≡ true →
+      Searched (adequate a s u v) low half
+  lowered half h k t = record { ordered = h; within = omega arith; below = i .below; found = λ _. rw t tt }
+
+  raised :
+      (half : ℕ) → half < high → adequate a s u v (2 * half) ≡ false →
+      Searched (adequate a s u v) (half + 1) high
+  raised half h t =
+      record {
+        ordered = omega arith;
+        within = i .within;
+        found = i .found;
+        below = λ j k p. rw t at (adequate-mono a s u v (2 * j) (2 * half) (omega arith) p);
+      }
+
+  past-all :
+      high ≤ low → greatestCrest / 2 < high →
+      Refused noLengthRefused ≡ leastEven (adequate a s u v) 0 (greatestCrest / 2 + 1)
+  past-all h k =
+      least-even-only (adequate a s u v) 0 (greatestCrest / 2 + 1) (Refused noLengthRefused)
+      (refl, λ j l t. i .below j (omega arith) (subst (λ (x : ℕ). T (adequate a s u v x)) (omega arith) t))
+
+  met :
+      high ≤ low → high ≤ greatestCrest / 2 →
+      Number (2 * high) ≡ leastEven (adequate a s u v) 0 (greatestCrest / 2 + 1)
+  met h k =
+      least-even-only (adequate a s u v) 0 (greatestCrest / 2 + 1) (Number (2 * high))
+      (record {
+        index = high;
+        within = omega arith;
+        place = omega arith;
+        passes = i .found k;
+        before = λ j l t. i .below j (omega arith) (subst (λ (x : ℕ). T (adequate a s u v x)) (omega arith) t);
+      })
+
+abbrev Inv-loop : tie.InvT-loop
+Inv-loop a s u v last low₀ high₀ low high = Searched (adequate a s u v) low high
+
+abbrev μ-loop : tie.MeasureT-loop
+μ-loop a s u v last low₀ high₀ low high = high - low
+
+cast-last : tie.Need-cast-last Inv-loop μ-loop
+cast-last c = search needs
+
+add-high : tie.Need-add-high Inv-loop μ-loop
+add-high c = search needs
+
+loop-holds : tie.Need-loop-holds Inv-loop μ-loop
+loop-holds c = record { ordered = omega arith; within = omega arith; below = λ j h t. omega arith; found = λ h. absurd (omega arith) }
+
+sub-half : tie.Need-sub-half Inv-loop μ-loop
+sub-half c = search needs
+
+add-half : tie.Need-add-half Inv-loop μ-loop
+add-half c = search needs
+
+mul-adequate : tie.Need-mul-adequate Inv-loop μ-loop
+mul-adequate c = search needs
+
+adequate-requires : tie.Need-adequate-requires Inv-loop μ-loop
+adequate-requires c κs = search needs
+
+loop-less : tie.Need-loop-less Inv-loop μ-loop
+loop-less c = search needs
+
+loop-again : tie.Need-loop-again Inv-loop μ-loop
+loop-again c =
+    lowered _ _ _ _ _ _ (c .before .before .before .loop .inv) _ (omega arith) (omega arith)
+    (sym (c .before .adequate .ensures) ∙ c .if1 .taken)
+
+add-low : tie.Need-add-low Inv-loop μ-loop
+add-low c = search needs
+
+loop-less-2 : tie.Need-loop-less-2 Inv-loop μ-loop
+loop-less-2 c = search needs
+
+loop-again-2 : tie.Need-loop-again-2 Inv-loop μ-loop
+loop-again-2 c =
+    raised _ _ _ _ _ _ (c .before .before .before .loop .inv) _ (omega arith)
+    (sym (c .before .adequate .ensures) ∙ c .if1 .left)
+
+returns : tie.Need-returns Inv-loop μ-loop
+returns c = past-all _ _ _ _ _ _ (c .before .before .loop .inv) (omega arith) (omega arith)
+
+mul-length : tie.Need-mul-length Inv-loop μ-loop
+mul-length c = search needs
+
+cast-metres : tie.Need-cast-metres Inv-loop μ-loop
+cast-metres c = search needs
+
+returns-2 : tie.Need-returns-2 Inv-loop μ-loop
+returns-2 c = met _ _ _ _ _ _ (c .before .before .loop .inv) (omega arith) (omega arith)
+
+pub least-even-spec : {M : Type 1} → statement M
+least-even-spec =
+    tie.close
+    (tie.spec
+    Inv-loop
+    μ-loop
+    cast-last
+    add-high
+    loop-holds
+    sub-half
+    add-half
+    mul-adequate
+    adequate-requires
+    loop-less
+    loop-again
+    add-low
+    loop-less-2
+    loop-again-2
+    returns
+    mul-length
+    cast-metres
+    returns-2)

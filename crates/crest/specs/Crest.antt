@@ -1,0 +1,41 @@
+-- Document 01, "How long a crest must be".
+--
+-- A length L is adequate for a drop in grade a and a sight distance S, with Q = u + √v, when
+--   S ≤ L and L Q ≥ a S², or L < S and a (2 S − L) ≤ Q.
+-- For the crest u = 2 (e + o) and v = 16 e o. With the root isolated the two inequalities are
+--   a S² − L u ≤ L √v = √(L² v), and a (2 S − L) − u ≤ √v.
+-- Each has the form x − y ≤ √z in whole numbers. Where x ≤ y its left side is not positive and it holds; else both
+-- sides are positive, and it holds exactly when (x − y)² ≤ z.
+use Prim.Native.Nat.{ℕ, zero, suc, _+_, _*_, _-_, _/_}
+use mathlib.Core.Bool.{Bool, cond, _||_}
+use lib.Dec.{leb}
+use Rattle.terms.specs.Answers.{outside, refuse}
+use Rattle.terms.specs.Limits.{greatestDrop, greatestSightDistance, greatestHeight, greatestCrest}
+use Rattle.terms.specs.Refusals.{dropRefused, sightDistanceRefused, heightRefused, noLengthRefused}
+use Rattle.terms.specs.declared.Answer.{Answer}
+use Rattle.terms.specs.declared.Answer.the-variants.{Number, Refused}
+
+-- x − y ≤ √z: the sign of the left side first, then the squares
+unfoldable pub withinRoot : ℕ → ℕ → ℕ → Bool
+withinRoot x y z = leb x y || leb ((x - y) * (x - y)) z
+
+-- the length L is adequate for the drop a and the sight distance S, with Q = u + √v
+unfoldable pub adequate : ℕ → ℕ → ℕ → ℕ → ℕ → Bool
+adequate a s u v l =
+    cond (leb s l)
+    (withinRoot (a * (s * s)) (l * u) (l * l * v))
+    (withinRoot (a * (2 * s - l)) u v)
+
+-- the first of n lengths l, l + 2, l + 4, … that passes the test; refused 18 where none does
+unfoldable pub leastEven : (ℕ → Bool) → ℕ → ℕ → Answer
+leastEven test l zero = Refused noLengthRefused
+leastEven test l (suc n) = cond (test l) (Number l) (leastEven test (l + 2) n)
+
+-- the crest length of a drop a, a sight distance S, an eye height e and an object height o: refused 15, 16, 17, then 18;
+-- else the least even adequate length from 0 to 2,000
+unfoldable pub crestLength : ℕ → ℕ → ℕ → ℕ → Answer
+crestLength a s e o =
+    refuse (outside 1 greatestDrop a) dropRefused
+    (refuse (outside 1 greatestSightDistance s) sightDistanceRefused
+    (refuse (outside 1 greatestHeight e || outside 1 greatestHeight o) heightRefused
+    (leastEven (adequate a s (2 * (e + o)) (16 * e * o)) 0 (greatestCrest / 2 + 1))))

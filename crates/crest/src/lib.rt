@@ -1,0 +1,88 @@
+// Document 01, "How long a crest must be": the least even adequate length, by whole numbers alone.
+ghost use mathlib.Core.Path.{_≡_};
+ghost use Prim.Native.Nat.{_≤_, _+_, _*_, _/_};
+ghost use Rattle.crest.specs.Crest.{withinRoot, adequate, leastEven, crestLength};
+ghost use Rattle.terms.specs.Limits.{greatestDrop, greatestSightDistance, greatestHeight, greatestCrest};
+use terms::Answer;
+
+// Whether x − y ≤ √z. The largest x is a S² = 1,920,000,000, whose square is below 3.7 × 10^18.
+fn within_root(x: u64, y: u64, z: u64) -> bool
+    requires { ⌜ x ≤ greatestDrop * (greatestSightDistance * greatestSightDistance) ⌝ }
+    ensures { λ r. ⌜ r ≡ withinRoot x y z ⌝ }
+{
+    if x <= y {
+        return true;
+    }
+    let over = x - y;
+    over * over <= z
+}
+
+// Whether the length l is adequate for the drop a and the sight distance s, with Q = u + √v. The largest product is
+// l² v = 4,000,000 × 40,000,000,000 = 1.6 × 10^17.
+fn adequate(a: u64, s: u64, u: u64, v: u64, l: u64) -> bool
+    requires { ⌜ (a ≤ greatestDrop) × (s ≤ greatestSightDistance) × (u ≤ 4 * greatestHeight) × (v ≤ 16 * greatestHeight * greatestHeight) × (l ≤ greatestCrest) ⌝ }
+    ensures { λ r. ⌜ r ≡ adequate a s u v l ⌝ }
+{
+    if s <= l {
+        return within_root(a * (s * s), l * u, l * l * v);
+    }
+    within_root(a * (2 * s - l), u, v)
+}
+
+// The least even adequate length from 0 to 2,000, by a binary search over half the length: about ten lengths are tested.
+fn least_even(a: u64, s: u64, u: u64, v: u64) -> Answer
+    requires { ⌜ (a ≤ greatestDrop) × (s ≤ greatestSightDistance) × (u ≤ 4 * greatestHeight) × (v ≤ 16 * greatestHeight * greatestHeight) ⌝ }
+    ensures { λ r. ⌜ r ≡ leastEven (adequate a s u v) 0 (greatestCrest / 2 + 1) ⌝ }
+{
+    let last = (terms::GREATEST_CREST / 2) as u64;
+    let mut low = 0;
+    let mut high = last + 1;
+    while low < high {
+        let half = low + (high - low) / 2;
+        if adequate(a, s, u, v, 2 * half) {
+            high = half;
+        } else {
+            low = half + 1;
+        }
+    }
+    if last < high {
+        return Answer::Refused(terms::NO_LENGTH_REFUSED);
+    }
+    let length = 2 * high;
+    let metres = length as u32;
+    Answer::Number(metres)
+}
+
+// The length that a crest with this drop in grade needs, so that an eye and an object of these heights see each other over
+// the sight distance.
+pub fn crest_length(drop: u32, sight: u32, eye: u32, object: u32) -> Answer
+    ensures { λ r. ⌜ r ≡ crestLength drop sight eye object ⌝ }
+{
+    if drop < 1 {
+        return Answer::Refused(terms::DROP_REFUSED);
+    }
+    if terms::GREATEST_DROP < drop {
+        return Answer::Refused(terms::DROP_REFUSED);
+    }
+    if sight < 1 {
+        return Answer::Refused(terms::SIGHT_DISTANCE_REFUSED);
+    }
+    if terms::GREATEST_SIGHT_DISTANCE < sight {
+        return Answer::Refused(terms::SIGHT_DISTANCE_REFUSED);
+    }
+    if eye < 1 {
+        return Answer::Refused(terms::HEIGHT_REFUSED);
+    }
+    if terms::GREATEST_HEIGHT < eye {
+        return Answer::Refused(terms::HEIGHT_REFUSED);
+    }
+    if object < 1 {
+        return Answer::Refused(terms::HEIGHT_REFUSED);
+    }
+    if terms::GREATEST_HEIGHT < object {
+        return Answer::Refused(terms::HEIGHT_REFUSED);
+    }
+    let e = eye as u64;
+    let o = object as u64;
+    least_even(drop as u64, sight as u64, 2 * (e + o), 16 * e * o)
+}
