@@ -1,0 +1,38 @@
+//! SplitMix64: a small generator that gives the same inputs in every run.
+
+use std::ops::RangeInclusive;
+
+pub struct Random {
+    state: u64,
+}
+
+impl Random {
+    pub fn new(seed: u64) -> Random {
+        Random { state: seed }
+    }
+
+    pub fn bits(&mut self) -> u64 {
+        self.state = self.state.wrapping_add(0x9E37_79B9_7F4A_7C15);
+        let mut z = self.state;
+        z = (z ^ (z >> 30)).wrapping_mul(0xBF58_476D_1CE4_E5B9);
+        z = (z ^ (z >> 27)).wrapping_mul(0x94D0_49BB_1331_11EB);
+        z ^ (z >> 31)
+    }
+
+    /// A number of the range, each about as likely as any other.
+    pub fn within(&mut self, range: RangeInclusive<u32>) -> u32 {
+        let many = u64::from(range.end() - range.start()) + 1;
+        let above = ((self.bits() >> 32) * many) >> 32;
+        range.start() + above as u32
+    }
+
+    /// A number from 1 to `greatest`, small ones as likely as great ones: first a limit is drawn by its number of bits.
+    pub fn of_any_size(&mut self, greatest: u32) -> u32 {
+        let limit = greatest >> self.within(0..=greatest.ilog2());
+        self.within(1..=limit)
+    }
+
+    pub fn one_of(&mut self, choices: &[u32]) -> u32 {
+        choices[self.within(0..=choices.len() as u32 - 1) as usize]
+    }
+}

@@ -1,0 +1,44 @@
+//! Document 01, "How long a crest must be".
+
+use super::Answer;
+
+/// A drop in grade in hundredths of a percent, a sight distance in metres, and heights of eye and object in h-units.
+#[derive(Clone, Copy, Debug)]
+pub struct Crest {
+    pub drop: u32,
+    pub sight: u32,
+    pub eye: u32,
+    pub object: u32,
+}
+
+/// side ≤ factor √radicand, for a factor and a radicand that are not negative: a side that is not positive is below any
+/// root, and of a positive one the squares are compared.
+fn at_most_root(side: i128, factor: i128, radicand: i128) -> bool {
+    side <= 0 || side * side <= factor * factor * radicand
+}
+
+/// The length L is adequate: S ≤ L and L Q ≥ a S², or L < S and a (2S − L) ≤ Q, with Q = 2(e + o) + √(16 e o).
+pub fn adequate(crest: Crest, length: u32) -> bool {
+    let [a, s, e, o, l] = [crest.drop, crest.sight, crest.eye, crest.object, length].map(i128::from);
+    let without_root = 2 * (e + o);
+    let radicand = 16 * e * o;
+    if s <= l {
+        at_most_root(a * s * s - l * without_root, l, radicand)
+    } else {
+        at_most_root(a * (2 * s - l) - without_root, 1, radicand)
+    }
+}
+
+/// The least even adequate length from 0 to 2,000.
+pub fn crest_length(crest: Crest) -> Answer {
+    if !(1..=3_000).contains(&crest.drop) {
+        return Err(15);
+    }
+    if !(1..=800).contains(&crest.sight) {
+        return Err(16);
+    }
+    if !(1..=50_000).contains(&crest.eye) || !(1..=50_000).contains(&crest.object) {
+        return Err(17);
+    }
+    (0..=2_000).step_by(2).find(|&length| adequate(crest, length)).ok_or(18)
+}
