@@ -1,13 +1,13 @@
--- Laws of `filled`: its length, each of its places, how it grows by one store, and what it depends on.
-use mathlib.Core.Path.{_≡_, refl, _∙_}
+-- Laws of `filled`: its length, each of its places, how it grows by one store, its front, and what it depends on.
+use mathlib.Core.Path.{_≡_, refl, sym, ap, _∙_}
 use mathlib.Core.List.{List}
 use mathlib.Core.Logic.{⊎-elim}
 use Prim.Native.Nat.{ℕ, zero, suc, _+_, _≤_, _<_}
 use native.Mathlib.Nat.{eq-or-lt-of-le, add-assoc, add-suc, add-zero}
 use native.Mathlib.Numerals.{add-one}
 use native.Mathlib.Omega.{arith}
-use lib.ListN.{length, getD, set, length-set}
-use lib.Seq.{getD-set-same, getD-set-other}
+use lib.ListN.{length, take, getD, set, length-set}
+use lib.Seq.{getD-set-same, getD-set-other, take-set-lt, ext-getD}
 use Rattle.whole.specs.Fill.{filled}
 
 module _ {A : Type 0} (f : ℕ → A) (i : ℕ) where
@@ -58,6 +58,14 @@ module _ {A : Type 0} (f : ℕ → A) (i : ℕ) where
   filled-join n zero xs = rw add-zero refl
   filled-join n (suc m) xs = rw (filled-join n m xs, add-assoc i n m, add-suc) refl
 
+  -- ---- the front of a list, its row filled
+  pub filled-take : (n m : ℕ) (xs : List A) → i + n ≤ m → take m (filled f i n xs) ≡ filled f i n (take m xs)
+  unfolding filled
+  filled-take zero m xs l = refl
+  filled-take (suc n) m xs l =
+      take-set-lt m (filled f i n xs) (i + n) (f (i + n)) (omega arith)
+      ∙ ap (λ (ys : List A). set ys (i + n) (f (i + n))) (filled-take n m xs (omega arith))
+
 -- one store more, where the loop's counter is the number of stores and the place at once
 pub filled-next : {A : Type 0} (f : ℕ → A) (n : ℕ) (xs out : List A) (v : A) → out ≡ filled f 0 n xs → v ≡ f n →
     set out n v ≡ filled f 0 (n + 1) xs
@@ -72,3 +80,12 @@ unfolding filled
 filled-cong f g i zero xs h = refl
 filled-cong f g i (suc n) xs h =
     rw (filled-cong f g i n xs (λ k l r. h k l (omega arith)), h (i + n) (omega arith) (omega arith)) refl
+
+-- ---- where all places are filled, what they held does not count
+pub filled-whole : {A : Type 0} (f : ℕ → A) (n : ℕ) (xs ys : List A) → length xs ≡ n → length ys ≡ n →
+    filled f 0 n xs ≡ filled f 0 n ys
+filled-whole f n xs ys p q =
+    let a = filled-length f 0 n xs in let b = filled-length f 0 n ys in
+    ext-getD (f 0) (filled f 0 n xs) (filled f 0 n ys) (omega arith)
+    (λ k l. filled-at f 0 n xs k (f 0) (omega arith) (omega arith) (omega arith)
+    ∙ sym (filled-at f 0 n ys k (f 0) (omega arith) (omega arith) (omega arith)))
