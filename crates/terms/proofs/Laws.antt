@@ -1,27 +1,118 @@
--- Laws of answers.
-use Prim.Native.Nat.{ℕ, _≤_, _<_}
+-- Laws of answers, verdicts and ranges.
+use Prim.Native.Nat.{ℕ, zero, suc, _≤_, _<_}
 use mathlib.Core.Bool.{Bool, true, false, not, _||_}
+use mathlib.Core.List.{List}
+use mathlib.Core.Path.{_≡_, refl, sym, subst}
 use native.Mathlib.Omega.{arith}
+use mir.Syntax.{w32}
+use mir.Val.{SFits}
+use borrow.Author.Tests.{le-ltb}
 use lib.Dec.{T, ltb, nltb→le}
-use Rattle.terms.specs.Answers.{outside, refuse, AtMost}
+use lib.IntN.{ℤ}
+use lib.Signed.{_≤ℤ_, ltZ, ltZ-yes, ltZ-no, clashℤ}
+use Rattle.whole.specs.Fill.{filled}
+use Rattle.terms.specs.Answers.{outside, outsideℤ, heightsOutside, refuse, written, fault, unless, signed}
+use Rattle.terms.specs.Limits.{greatestHeight}
 use Rattle.terms.specs.declared.Answer.{Answer}
 use Rattle.terms.specs.declared.Answer.the-variants.{Number, Refused}
+use Rattle.terms.specs.declared.Verdict.{Verdict}
+use Rattle.terms.specs.declared.Verdict.the-variants.{Accepted, Fault}
+
+-- ---- answers
+-- a value is at most m, and a refusal's number is a byte
+abbrev pub AtMost : ℕ → Answer → Type 0
+AtMost m (Number n) = n ≤ m
+AtMost m (Refused k) = k < 256
 
 -- what is not refused is bounded by the rest
-pub refuse-at-most : (test : Bool) (number m : ℕ) (rest : Answer) → (T (not test) → AtMost m rest) → AtMost m (refuse test number rest)
-refuse-at-most true number m rest h = tt
-refuse-at-most false number m rest h = h tt
+pub refuse-at-most : (test : Bool) (number m : ℕ) (rest : Answer) → number < 256 → (T (not test) → AtMost m rest) → AtMost m (refuse test number rest)
+refuse-at-most true number m rest l h = l
+refuse-at-most false number m rest l h = h tt
 
--- a larger bound does too
-pub at-most-mono : (a : Answer) {m n : ℕ} → m ≤ n → AtMost m a → AtMost n a
-at-most-mono (Number k) h p = omega arith
-at-most-mono (Refused k) h p = tt
+-- an answer below 2^31 is a signed 32-bit number
+pub signed-fits : (a : Answer) (m : ℕ) → m < 2147483648 → AtMost m a → SFits w32 (signed a)
+signed-fits (Number n) m l h = record { sfits = omega arith }
+signed-fits (Refused zero) m l h = record { sfits = omega arith }
+signed-fits (Refused (suc k)) m l h = record { sfits = omega arith }
+
+-- what an operation answers and leaves in the list, where the definition of its answer is known
+module _ {A : Type 0} (f : ℕ → A) (answer : Answer) (xs : List A) where
+  pub written-refused : (k : ℕ) → answer ≡ Refused k → (Refused k ≡ answer) × (xs ≡ written f answer xs)
+  written-refused k e = (sym e, rw e refl)
+
+  pub written-number :
+      (n : ℕ) (out : List A) → answer ≡ Number n → out ≡ filled f 0 n xs → (Number n ≡ answer) × (out ≡ written f answer xs)
+  written-number n out e p = (sym e, rw e p)
+
+-- ---- verdicts
+-- a fault is no acceptance
+pub fault-not-accepted : (number : ℕ) → Fault number ≡ Accepted → ⊥
+fault-not-accepted number e = let z : _≡_ {A = ℕ} 0 1 = cc in omega arith
+
+-- a fault's number is a byte
+abbrev pub ByteFault : Verdict → Type 0
+ByteFault Accepted = Unit {0}
+ByteFault (Fault k) = k < 256
+
+pub fault-byte : (test : Bool) (number : ℕ) (rest : Verdict) → number < 256 → ByteFault rest → ByteFault (fault test number rest)
+fault-byte true number rest l h = l
+fault-byte false number rest l h = h
+
+pub unless-at-most :
+    (v : Verdict) (m : ℕ) (rest : Answer) → ByteFault v → (v ≡ Accepted → AtMost m rest) → AtMost m (unless v rest)
+unless-at-most Accepted m rest b h = h refl
+unless-at-most (Fault k) m rest b h = b
+
+-- accepted, so the test does not hold and the rest is accepted
+pub fault-accepted : (test : Bool) (number : ℕ) (rest : Verdict) → fault test number rest ≡ Accepted → T (not test) × (rest ≡ Accepted)
+fault-accepted true number rest e = absurd (fault-not-accepted number e)
+fault-accepted false number rest e = (tt, e)
+
+-- ---- ranges
+-- two tests neither of which holds
+pub neither : (a b : Bool) → T (not (a || b)) → T (not a) × T (not b)
+neither true b t = absurd t
+neither false b t = (tt, t)
+
+-- as a condition leaves it
+pub neither-left : (a b : Bool) → (a || b) ≡ false → a ≡ false
+neither-left true b e = e
+neither-left false b e = refl
+
+-- what is in a range is not outside it
+pub not-outside : (low high x : ℕ) → (low ≤ x) × (x ≤ high) → outside low high x ≡ false
+not-outside low high x h = simp (le-ltb x low (h .0), le-ltb high x (h .1))
 
 -- what is not outside a range is in it
 pub inside : (low high x : ℕ) → T (not (outside low high x)) → (low ≤ x) × (x ≤ high)
-inside low high x t = go (ltb x low) (ltb high x) (nltb→le x low) (nltb→le high x) t
+inside low high x t =
+    let n = neither (ltb x low) (ltb high x) t in
+    (nltb→le x low (n .0), nltb→le high x (n .1))
+
+-- the same of the flag that a function answered
+pub not-outside-in : (low high x : ℕ) → outside low high x ≡ false → (low ≤ x) × (x ≤ high)
+not-outside-in low high x e = inside low high x (subst (λ (t : Bool). T (not t)) (sym e) tt)
+
+-- of both heights
+pub heights-in :
+    (e o : ℕ) → heightsOutside e o ≡ false → ((1 ≤ e) × (e ≤ greatestHeight)) × ((1 ≤ o) × (o ≤ greatestHeight))
+heights-in e o p =
+    let n = neither (outside 1 greatestHeight e) (outside 1 greatestHeight o) (subst (λ (t : Bool). T (not t)) (sym p) tt) in
+    (inside 1 greatestHeight e (n .0), inside 1 greatestHeight o (n .1))
+
+pub heights-not-outside :
+    (e o : ℕ) → (1 ≤ e) × (e ≤ greatestHeight) → (1 ≤ o) × (o ≤ greatestHeight) → heightsOutside e o ≡ false
+heights-not-outside e o p q = simp (not-outside 1 greatestHeight e p, not-outside 1 greatestHeight o q)
+
+pub inside-ℤ : (low high z : ℤ) → T (not (outsideℤ low high z)) → (low ≤ℤ z) × (z ≤ℤ high)
+inside-ℤ low high z t =
+    let n = neither (ltZ z low) (ltZ high z) t in
+    (ltZ-no (n .0), ltZ-no (n .1))
+
+-- the value of a test that does not hold
+pub le-ltZ : {a b : ℤ} → a ≤ℤ b → ltZ b a ≡ false
+le-ltZ {a} {b} h = go (ltZ b a) refl
   where
-    go : (a b : Bool) → (T (not a) → low ≤ x) → (T (not b) → x ≤ high) → T (not (a || b)) → (low ≤ x) × (x ≤ high)
-    go true b f g t = absurd t
-    go false true f g t = absurd t
-    go false false f g t = (f tt, g tt)
+    go : (t : Bool) → ltZ b a ≡ t → t ≡ false
+    go true e = clashℤ (ltZ-yes (subst T (sym e) tt)) h
+    go false e = refl

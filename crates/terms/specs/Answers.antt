@@ -1,11 +1,12 @@
 -- How a definition says an answer: tests in document 01's order, each with its refusal, and then the value.
-use Prim.Native.Nat.{ℕ, _≤_}
+use Prim.Native.Nat.{ℕ}
 use mathlib.Core.Bool.{Bool, cond, _||_}
 use mathlib.Core.List.{List}
 use lib.Dec.{ltb}
 use lib.IntN.{ℤ, pos, negℤ}
 use lib.Signed.{ltZ}
 use Rattle.whole.specs.Fill.{filled}
+use Rattle.terms.specs.Limits.{greatestList, greatestHeight}
 use Rattle.terms.specs.declared.Answer.{Answer}
 use Rattle.terms.specs.declared.Answer.the-variants.{Number, Refused}
 use Rattle.terms.specs.declared.Verdict.{Verdict}
@@ -14,6 +15,14 @@ use Rattle.terms.specs.declared.Verdict.the-variants.{Accepted, Fault}
 -- x is not low to high
 abbrev pub outside : ℕ → ℕ → ℕ → Bool
 outside low high x = ltb x low || ltb high x
+
+-- a list of heights or marks is empty or longer than 8,001
+abbrev pub listOutside : ℕ → Bool
+listOutside n = outside 1 greatestList n
+
+-- the height of the eye or that of the object is not 1 to 50,000
+abbrev pub heightsOutside : ℕ → ℕ → Bool
+heightsOutside e o = outside 1 greatestHeight e || outside 1 greatestHeight o
 
 -- z is not low to high
 abbrev pub outsideℤ : ℤ → ℤ → ℤ → Bool
@@ -26,6 +35,11 @@ refuse test number rest = cond test (Refused number) rest
 -- the same of a verdict: the first test that holds gives the fault
 abbrev pub fault : Bool → ℕ → Verdict → Verdict
 fault test number rest = cond test (Fault number) rest
+
+-- a verdict's fault; else as the rest says
+abbrev pub firstFault : Verdict → Verdict → Verdict
+firstFault Accepted rest = rest
+firstFault (Fault k) rest = Fault k
 
 -- refused by a verdict's fault; else as the rest says
 abbrev pub unless : Verdict → Answer → Answer
@@ -42,8 +56,3 @@ written f (Refused k) xs = xs
 abbrev pub signed : Answer → ℤ
 signed (Number n) = pos n
 signed (Refused k) = negℤ (pos k)
-
--- a value, if it is one, is at most m
-abbrev pub AtMost : ℕ → Answer → Type 0
-AtMost m (Number n) = n ≤ m
-AtMost m (Refused k) = Unit {0}

@@ -1,6 +1,9 @@
 // The answer of every operation whose result is a number, and the limits and refusal numbers of document 01 as the code
 // names them. specs/Limits.antt and specs/Refusals.antt give the definitions the same numbers under the same names.
 
+ghost use mathlib.Core.Path.{_≡_};
+ghost use Rattle.terms.specs.Answers.{outside, listOutside, heightsOutside, signed};
+
 // The value, or the number of the refusal.
 pub enum Answer {
     Number(u32),
@@ -108,3 +111,37 @@ pub const LAST_BIT: u32 = 4;
 pub const EYE: u32 = 10800;
 
 pub const OBJECT: u32 = 6000;
+
+// Bytes that hold any listing.
+pub const GREATEST_LISTING: usize = 280092;
+
+// Whether `x` is not `low` to `high`.
+pub fn outside(low: u32, high: u32, x: u32) -> bool
+    ensures { λ r. ⌜ r ≡ outside low high x ⌝ }
+{
+    (x < low) | (high < x)
+}
+
+// Whether a list of heights or marks is empty or too long.
+pub fn list_outside(length: usize) -> bool
+    ensures { λ r. ⌜ r ≡ listOutside length ⌝ }
+{
+    (length < 1) | (GREATEST_LIST < length)
+}
+
+// Whether the height of the eye or that of the object is out of its range.
+pub fn heights_outside(eye: u32, object: u32) -> bool
+    ensures { λ r. ⌜ r ≡ heightsOutside eye object ⌝ }
+{
+    outside(1, GREATEST_HEIGHT, eye) | outside(1, GREATEST_HEIGHT, object)
+}
+
+// The answer as one signed number, a refusal being minus its number.
+pub fn signed_answer(answer: Answer) -> i64
+    ensures { λ r. ⌜ r ≡ signed answer ⌝ }
+{
+    match answer {
+        Answer::Number(n) => n as i64,
+        Answer::Refused(k) => -(k as i64),
+    }
+}
