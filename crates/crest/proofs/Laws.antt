@@ -6,13 +6,14 @@ use native.Mathlib.Omega.{arith}
 use mathlib.Core.Path.{_≡_, refl, sym, ap, subst, _∙_}
 use mathlib.Core.Bool.{Bool, true, false, cond, _||_}
 use mathlib.Core.Logic.{_↔_, _⊎_, inl, inr, ⊎-elim}
-use borrow.Author.Tests.{le-leb, lt-ltb, le-ltb, leb-true, leb-false, ltb-true}
+use borrow.Author.Tests.{le-leb, le-ltb, leb-true, leb-false, ltb-true}
 use lib.Dec.{T, leb, ltb, leb→le, le→leb}
 use lib.IntN.{pos, negsuc, _-ℤ_, _*ℤ_, subℕ}
 use lib.Signed.{_≤ℤ_}
-use Rattle.terms.specs.Answers.{AtMost, outside, refuse}
+use Rattle.terms.specs.Answers.{outside, heightsOutside, refuse}
 use Rattle.terms.specs.Limits.{greatestDrop, greatestSightDistance, greatestHeight, greatestCrest}
 use Rattle.terms.specs.Refusals.{dropRefused, sightDistanceRefused, heightRefused, noLengthRefused}
+use Rattle.terms.proofs.Laws.{AtMost, refuse-at-most, not-outside, heights-not-outside}
 use Rattle.terms.specs.declared.Answer.{Answer}
 use Rattle.terms.specs.declared.Answer.the-variants.{Number, Refused}
 use Rattle.crest.specs.Crest.{withinRoot, adequate, leastEven, crestLength}
@@ -168,17 +169,6 @@ pub record InRange (a s e o : ℕ) : Type 0 where
   pub eye : (1 ≤ e) × (e ≤ greatestHeight)
   pub object : (1 ≤ o) × (o ≤ greatestHeight)
 
--- x is outside 1 to high, on either side, or inside
-module _ (high x : ℕ) where
-  pub outside-below : x < 1 → outside 1 high x ≡ true
-  outside-below h = simp (lt-ltb x 1 h)
-
-  pub outside-above : (1 ≤ x) × (high < x) → outside 1 high x ≡ true
-  outside-above h = simp (le-ltb x 1 (h .0), lt-ltb high x (h .1))
-
-  pub not-outside : (1 ≤ x) × (x ≤ high) → outside 1 high x ≡ false
-  not-outside h = simp (le-ltb x 1 (h .0), le-ltb high x (h .1))
-
 -- in the ranges the answer is that of the search
 pub crest-length-in-range :
     (a s e o : ℕ) → InRange a s e o →
@@ -186,10 +176,9 @@ pub crest-length-in-range :
 unfolding crestLength
 crest-length-in-range a s e o h =
     simp (
-      not-outside greatestDrop a (h .drop),
-      not-outside greatestSightDistance s (h .sight),
-      not-outside greatestHeight e (h .eye),
-      not-outside greatestHeight o (h .object),
+      not-outside 1 greatestDrop a (h .drop),
+      not-outside 1 greatestSightDistance s (h .sight),
+      heights-not-outside e o (h .eye) (h .object),
     )
 
 -- r is even, at most 2,000 and adequate, and no lesser even length is adequate
@@ -221,18 +210,26 @@ crest-length-number a s e o r p =
     let n = greatestCrest / 2 + 1 in
     first-least a s e o r
     (subst (FirstEven test 0 n)
-    (refuse-number (outside 1 greatestHeight e || outside 1 greatestHeight o) heightRefused r _
+    (refuse-number (heightsOutside e o) heightRefused r _
     (refuse-number (outside 1 greatestSightDistance s) sightDistanceRefused r _
     (refuse-number (outside 1 greatestDrop a) dropRefused r _ p)))
     (least-even-is test 0 n))
 
 -- so it is at most 2,000
+first-even-at-most :
+    (test : ℕ → Bool) (x : Answer) → FirstEven test 0 (greatestCrest / 2 + 1) x → AtMost greatestCrest x
+first-even-at-most test (Number r) f = omega arith
+first-even-at-most test (Refused k) f = omega (arith, f .0)
+
 pub crest-length-at-most : (a s e o : ℕ) → AtMost greatestCrest (crestLength a s e o)
-crest-length-at-most a s e o = go (crestLength a s e o) refl
-  where
-    go : (x : Answer) → crestLength a s e o ≡ x → AtMost greatestCrest x
-    go (Number r) p = crest-length-number a s e o r p .within
-    go (Refused k) p = tt
+unfolding crestLength
+crest-length-at-most a s e o =
+    let test = crestTest a s e o in
+    let n = greatestCrest / 2 + 1 in
+    refuse-at-most (outside 1 greatestDrop a) _ _ _ (omega arith) (λ p.
+    refuse-at-most (outside 1 greatestSightDistance s) _ _ _ (omega arith) (λ q.
+    refuse-at-most (heightsOutside e o) _ _ _ (omega arith) (λ t.
+    first-even-at-most test (leastEven test 0 n) (least-even-is test 0 n))))
 
 -- 18 is said exactly where no even length up to 2,000 is adequate
 pub crest-length-none :

@@ -58,28 +58,13 @@ fn least_even(a: u64, s: u64, u: u64, v: u64) -> Answer
 pub fn crest_length(drop: u32, sight: u32, eye: u32, object: u32) -> Answer
     ensures { λ r. ⌜ r ≡ crestLength drop sight eye object ⌝ }
 {
-    if drop < 1 {
+    if terms::outside(1, terms::GREATEST_DROP, drop) {
         return Answer::Refused(terms::DROP_REFUSED);
     }
-    if terms::GREATEST_DROP < drop {
-        return Answer::Refused(terms::DROP_REFUSED);
-    }
-    if sight < 1 {
+    if terms::outside(1, terms::GREATEST_SIGHT_DISTANCE, sight) {
         return Answer::Refused(terms::SIGHT_DISTANCE_REFUSED);
     }
-    if terms::GREATEST_SIGHT_DISTANCE < sight {
-        return Answer::Refused(terms::SIGHT_DISTANCE_REFUSED);
-    }
-    if eye < 1 {
-        return Answer::Refused(terms::HEIGHT_REFUSED);
-    }
-    if terms::GREATEST_HEIGHT < eye {
-        return Answer::Refused(terms::HEIGHT_REFUSED);
-    }
-    if object < 1 {
-        return Answer::Refused(terms::HEIGHT_REFUSED);
-    }
-    if terms::GREATEST_HEIGHT < object {
+    if terms::heights_outside(eye, object) {
         return Answer::Refused(terms::HEIGHT_REFUSED);
     }
     let e = eye as u64;

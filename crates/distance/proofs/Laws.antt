@@ -1,13 +1,13 @@
 -- Laws of the required distance: what rounding up to 5 m is, and how large its numbers are.
-use mathlib.Core.Path.{_≡_, refl, ap, _∙_}
+use mathlib.Core.Path.{_≡_, ap}
 use mathlib.Core.Bool.{Bool, true, false, cond}
-use Prim.Native.Nat.{ℕ, zero, suc, _+_, _*_, _-_, _/_, _≤_, _<_}
+use Prim.Native.Nat.{ℕ, zero, suc, _+_, _*_, _-_, _≤_, _<_}
 use native.Mathlib.Nat.{mul-le-mul, div-mul-le-self, lt-div-mul-add, div-eq-of-lt-le}
 use native.Mathlib.Omega.{arith}
 use lib.Dec.{ltb}
-use Rattle.terms.specs.Answers.{AtMost, outside}
+use Rattle.terms.specs.Answers.{outside}
 use Rattle.terms.specs.Limits.{leastSpeed, greatestSpeed, lastPurpose}
-use Rattle.terms.proofs.Laws.{refuse-at-most, inside}
+use Rattle.terms.proofs.Laws.{AtMost, refuse-at-most, inside}
 use Rattle.distance.specs.declared.Purpose.{Purpose}
 use Rattle.distance.specs.Distance.{purposeRow, levelParts, upToFive, requiredDistance}
 
@@ -54,8 +54,8 @@ level-parts-small v p h k =
 pub required-at-most : (v p : ℕ) → AtMost 725 (requiredDistance v p)
 unfolding requiredDistance
 required-at-most v p =
-    refuse-at-most (outside leastSpeed greatestSpeed v) _ _ _ (λ s.
-    refuse-at-most (ltb lastPurpose p) _ _ _ (λ t.
+    refuse-at-most (outside leastSpeed greatestSpeed v) _ _ _ (omega arith) (λ s.
+    refuse-at-most (ltb lastPurpose p) _ _ _ (omega arith) (λ t.
     let h = inside leastSpeed greatestSpeed v s in
     let n = level-parts-small v (purposeRow p) (h .1) (reaction-small p) in
     omega (arith, up-to-five-below (levelParts v (purposeRow p)) 170000 (omega arith))))

@@ -67,10 +67,7 @@ fn up_to_five(num: u64, den: u64) -> u64
 pub fn required_distance(speed: u32, purpose: u32) -> Answer
     ensures { λ r. ⌜ r ≡ requiredDistance speed purpose ⌝ }
 {
-    if speed < terms::LEAST_SPEED {
-        return Answer::Refused(terms::SPEED_REFUSED);
-    }
-    if terms::GREATEST_SPEED < speed {
+    if terms::outside(terms::LEAST_SPEED, terms::GREATEST_SPEED, speed) {
         return Answer::Refused(terms::SPEED_REFUSED);
     }
     if terms::LAST_PURPOSE < purpose {

@@ -1,83 +1,61 @@
--- One return for each edge of a range, in the definition's order. Within all ranges the answer is that of the search
--- (`crest-length-in-range`).
-use Prim.Native.Nat.{_≤_}
+-- `crest_length` meets its contract: each `return` rewrites the definition by the tests that led to it. Within all ranges the
+-- answer is that of the search (`crest-length-in-range`).
+use mathlib.Core.Path.{sym, _∙_}
 use native.Mathlib.Nat.{mul-le-mul}
 use native.Mathlib.Omega.{arith}
-use mathlib.Core.Path.{sym, _∙_}
 use borrow.Author.Needs.{needs}
-use Rattle.terms.specs.Limits.{greatestDrop, greatestSightDistance, greatestHeight}
+use Rattle.terms.specs.Limits.{greatestDrop, greatestSightDistance}
+use Rattle.terms.proofs.Laws.{not-outside-in, heights-in}
 use Rattle.crest.specs.Crest.{crestLength}
-use Rattle.crest.proofs.Laws.{outside-below, outside-above, not-outside, crest-length-in-range}
+use Rattle.crest.proofs.Laws.{InRange, crest-length-in-range}
 use Rattle.crest.proofs.crest_length.Statement.{statement}
 use Rattle.crest.proofs.crest_length.Tie as tie
 
+outside-requires : tie.Need-outside-requires
+outside-requires c κs = search needs
+
 returns : tie.Need-returns
 unfolding crestLength
-returns c = let x = c .before .args in simp (outside-below greatestDrop (x .drop) (omega arith))
+returns c = simp (sym (c .before .outside .ensures) ∙ c .if1 .taken)
+
+outside-requires-2 : tie.Need-outside-requires-2
+outside-requires-2 c κs = search needs
 
 returns-2 : tie.Need-returns-2
 unfolding crestLength
-returns-2 c = let x = c .before .before .args in simp (outside-above greatestDrop (x .drop) (omega arith))
+returns-2 c =
+    let d = c .before .before in
+    simp (sym (d .before .outside .ensures) ∙ d .if1 .left, sym (c .before .outside2 .ensures) ∙ c .if2 .taken)
+
+heights-outside-requires : tie.Need-heights-outside-requires
+heights-outside-requires c κs = search needs
 
 returns-3 : tie.Need-returns-3
 unfolding crestLength
 returns-3 c =
-    let x = c .before .before .before .args in
+    let s = c .before .before in
+    let d = s .before .before in
     simp (
-      not-outside greatestDrop (x .drop) (omega arith),
-      outside-below greatestSightDistance (x .sight) (omega arith),
+      sym (d .before .outside .ensures) ∙ d .if1 .left,
+      sym (s .before .outside2 .ensures) ∙ s .if2 .left,
+      sym (c .before .heights-outside .ensures) ∙ c .if3 .taken,
     )
 
-returns-4 : tie.Need-returns-4
-unfolding crestLength
-returns-4 c =
-    let x = c .before .before .before .before .args in
-    simp (
-      not-outside greatestDrop (x .drop) (omega arith),
-      outside-above greatestSightDistance (x .sight) (omega arith),
-    )
-
-returns-5 : tie.Need-returns-5
-unfolding crestLength
-returns-5 c =
-    let x = c .before .before .before .before .before .args in
-    simp (
-      not-outside greatestDrop (x .drop) (omega arith),
-      not-outside greatestSightDistance (x .sight) (omega arith),
-      outside-below greatestHeight (x .eye) (omega arith),
-    )
-
-returns-6 : tie.Need-returns-6
-unfolding crestLength
-returns-6 c =
-    let x = c .before .before .before .before .before .before .args in
-    simp (
-      not-outside greatestDrop (x .drop) (omega arith),
-      not-outside greatestSightDistance (x .sight) (omega arith),
-      outside-above greatestHeight (x .eye) (omega arith),
-    )
-
-returns-7 : tie.Need-returns-7
-unfolding crestLength
-returns-7 c =
-    let x = c .before .before .before .before .before .before .before .args in
-    simp (
-      not-outside greatestDrop (x .drop) (omega arith),
-      not-outside greatestSightDistance (x .sight) (omega arith),
-      not-outside greatestHeight (x .eye) (omega arith),
-      outside-below greatestHeight (x .object) (omega arith),
-    )
-
-returns-8 : tie.Need-returns-8
-unfolding crestLength
-returns-8 c =
-    let x = c .before .before .before .before .before .before .before .before .args in
-    simp (
-      not-outside greatestDrop (x .drop) (omega arith),
-      not-outside greatestSightDistance (x .sight) (omega arith),
-      not-outside greatestHeight (x .eye) (omega arith),
-      outside-above greatestHeight (x .object) (omega arith),
-    )
+-- past the three tests all numbers are in their ranges
+in-range :
+    (c : tie.Else3) →
+    let x = c .before .before .before .before .before .before .args in InRange (x .drop) (x .sight) (x .eye) (x .object)
+in-range c =
+    let s = c .before .before in
+    let d = s .before .before in
+    let x = d .before .before .args in
+    let h = heights-in (x .eye) (x .object) (sym (c .before .heights-outside .ensures) ∙ c .if3 .left) in
+    record {
+      drop = not-outside-in 1 greatestDrop _ (sym (d .before .outside .ensures) ∙ d .if1 .left);
+      sight = not-outside-in 1 greatestSightDistance _ (sym (s .before .outside2 .ensures) ∙ s .if2 .left);
+      eye = h .0;
+      object = h .1;
+    }
 
 add-least-even : tie.Need-add-least-even
 add-least-even c = search needs
@@ -89,37 +67,27 @@ mul-least-even-2 : tie.Need-mul-least-even-2
 mul-least-even-2 c = search needs
 
 mul-least-even-3 : tie.Need-mul-least-even-3
-mul-least-even-3 c =
-    let x = c .before .before .before .before .before .before .before .before .args in
-    let e : x .eye ≤ greatestHeight = omega arith in
-    let o : x .object ≤ greatestHeight = omega arith in
-    omega (arith, mul-le-mul e o)
+mul-least-even-3 c = let r = in-range c in omega (arith, mul-le-mul (r .eye .1) (r .object .1))
 
 least-even-requires : tie.Need-least-even-requires
-least-even-requires c κs =
-    let x = c .before .before .before .before .before .before .before .before .args in
-    let e : x .eye ≤ greatestHeight = omega arith in
-    let o : x .object ≤ greatestHeight = omega arith in
-    omega (arith, mul-le-mul e o)
+least-even-requires c κs = let r = in-range c in omega (arith, mul-le-mul (r .eye .1) (r .object .1))
 
-returns-9 : tie.Need-returns-9
-returns-9 c = c .least-even .ensures ∙ sym (crest-length-in-range _ _ _ _ (omega arith))
+returns-4 : tie.Need-returns-4
+returns-4 c = c .least-even .ensures ∙ sym (crest-length-in-range _ _ _ _ (in-range (c .before)))
 
 pub crest-length-spec : {M : Type 1} → statement M
 crest-length-spec =
     tie.close
     (tie.spec
+    outside-requires
     returns
+    outside-requires-2
     returns-2
+    heights-outside-requires
     returns-3
-    returns-4
-    returns-5
-    returns-6
-    returns-7
-    returns-8
     add-least-even
     mul-least-even
     mul-least-even-2
     mul-least-even-3
     least-even-requires
-    returns-9)
+    returns-4)

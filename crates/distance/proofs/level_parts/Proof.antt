@@ -1,5 +1,4 @@
 -- `level_parts` meets its contract: each product is bounded by the speed's and the reaction time's bounds.
-use mathlib.Core.Path.{_≡_, refl}
 use borrow.Author.Needs.{needs}
 use native.Mathlib.Omega.{arith}
 use native.Mathlib.Nat.{mul-le-mul}

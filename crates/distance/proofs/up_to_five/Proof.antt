@@ -1,5 +1,5 @@
 -- `up_to_five` meets its contract: the quotient's fivefold is no larger than the quotient times the divisor, and so than the dividend.
-use mathlib.Core.Path.{_≡_, refl}
+use mathlib.Core.Path.{refl}
 use Prim.Native.Nat.{_+_, _*_, _-_, _/_, _≤_}
 use borrow.Author.Needs.{needs}
 use native.Mathlib.Omega.{arith}
