@@ -1,0 +1,116 @@
+-- What acceptance says: every number of an accepted road is in its range, and every curve in use is sound and lies behind the
+-- one before it; and the other way round.
+use Prim.Native.Nat.{ℕ, _≤_, _%_}
+use mathlib.Core.Bool.{Bool, true, false, not}
+use mathlib.Core.List.{List, _∷_}
+use mathlib.Core.Path.{_≡_}
+use borrow.Author.Tests.{le-ltb}
+use lib.Dec.{T, ltb, eqb, eqb→eq, nltb→le}
+use lib.IntN.{pos, negℤ}
+use lib.Signed.{_≤ℤ_}
+use Rattle.terms.specs.Answers.{outside, outsideℤ}
+use Rattle.terms.specs.Limits.{leastSpeed, greatestSpeed, firstDecision, lastPurpose, greatestRoad, lowestStart, highestStart, greatestGrade, greatestCurveCount, greatestCurve}
+use Rattle.terms.specs.Refusals.{curveCountRefused, speedRefused, purposeRefused, roadLengthRefused, startRefused, gradeRefused, curveLengthRefused, curvePlaceRefused, curveOrderRefused}
+use Rattle.terms.specs.declared.Verdict.the-variants.{Accepted}
+use Rattle.terms.proofs.Laws.{fault-accepted, neither, inside, inside-ℤ, le-ltZ}
+use Rattle.road.specs.declared.Curve.{Curve}
+use Rattle.road.specs.declared.Road.{Road}
+use Rattle.road.specs.Road.{half, begin, end, curvesOf, steep, curveVerdict, curvesVerdict, roadVerdict}
+use Rattle.road.proofs.Faults.{ill-sized, off-road}
+
+-- ---- one curve
+-- a curve without a fault, on a road of length n, behind a curve that ends at last
+pub record SoundCurve (n last : ℕ) (c : Curve) : Type 0 where
+  pub grade-low : negℤ (pos greatestGrade) ≤ℤ c .«grade_out»
+  pub grade-high : c .«grade_out» ≤ℤ pos greatestGrade
+  pub even : c .length % 2 ≡ 0
+  pub short : c .length ≤ greatestCurve
+  pub behind-zero : half c ≤ c .pvi
+  pub before-end : end c ≤ n
+  pub ordered : last ≤ begin c
+
+not-odd : (m : ℕ) → T (not (not (eqb m 0))) → m ≡ 0
+not-odd m t = eqb→eq m 0 (go (eqb m 0) t)
+  where
+    go : (b : Bool) → T (not (not b)) → T b
+    go true t = t
+    go false t = t
+
+pub accepted-curve : (n last : ℕ) (c : Curve) (cs : List Curve) → curvesVerdict n last (c ∷ cs) ≡ Accepted →
+    SoundCurve n last c × (curvesVerdict n (end c) cs ≡ Accepted)
+unfolding curvesVerdict curveVerdict
+accepted-curve n last c cs e =
+    let grade = fault-accepted (steep (c .«grade_out»)) gradeRefused _ e in
+    let size = fault-accepted (ill-sized c) curveLengthRefused _ (grade .1) in
+    let place = fault-accepted (off-road n c) curvePlaceRefused _ (size .1) in
+    let order = fault-accepted (ltb (begin c) last) curveOrderRefused _ (place .1) in
+    let g = inside-ℤ (negℤ (pos greatestGrade)) (pos greatestGrade) (c .«grade_out») (grade .0) in
+    let s = neither (not (eqb (c .length % 2) 0)) (ltb greatestCurve (c .length)) (size .0) in
+    let p = neither (ltb (c .pvi) (half c)) (ltb n (end c)) (place .0) in (
+      record {
+        grade-low = g .0;
+        grade-high = g .1;
+        even = not-odd (c .length % 2) (s .0);
+        short = nltb→le greatestCurve (c .length) (s .1);
+        behind-zero = nltb→le (c .pvi) (half c) (p .0);
+        before-end = nltb→le n (end c) (p .1);
+        ordered = nltb→le (begin c) last (order .0);
+      },
+      order .1,
+    )
+
+pub sound-curve : (n last : ℕ) (c : Curve) (cs : List Curve) → SoundCurve n last c → curvesVerdict n (end c) cs ≡ Accepted →
+    curvesVerdict n last (c ∷ cs) ≡ Accepted
+unfolding curvesVerdict curveVerdict
+sound-curve n last c cs s e =
+    simp (le-ltZ (s .grade-low), le-ltZ (s .grade-high), s .even, le-ltb _ _ (s .short), le-ltb _ _ (s .behind-zero), le-ltb _ _ (s .before-end), le-ltb _ _ (s .ordered)) e
+
+-- ---- a road
+-- every number of the road is in its range, and no curve has a fault
+pub record SoundRoad (r : Road) : Type 0 where
+  pub count : r .count ≤ greatestCurveCount
+  pub speed-low : leastSpeed ≤ r .speed
+  pub speed-high : r .speed ≤ greatestSpeed
+  pub purpose-low : firstDecision ≤ r .purpose
+  pub purpose-high : r .purpose ≤ lastPurpose
+  pub length-low : 1 ≤ r .length
+  pub length-high : r .length ≤ greatestRoad
+  pub start-low : lowestStart ≤ℤ r .«start_height»
+  pub start-high : r .«start_height» ≤ℤ highestStart
+  pub grade-low : negℤ (pos greatestGrade) ≤ℤ r .«first_grade»
+  pub grade-high : r .«first_grade» ≤ℤ pos greatestGrade
+  pub curves : curvesVerdict (r .length) 0 (curvesOf r) ≡ Accepted
+
+pub accepted-road : (r : Road) → roadVerdict r ≡ Accepted → SoundRoad r
+unfolding roadVerdict
+accepted-road r e =
+    let count = fault-accepted (ltb greatestCurveCount (r .count)) curveCountRefused _ e in
+    let speed = fault-accepted (outside leastSpeed greatestSpeed (r .speed)) speedRefused _ (count .1) in
+    let purpose = fault-accepted (outside firstDecision lastPurpose (r .purpose)) purposeRefused _ (speed .1) in
+    let length = fault-accepted (outside 1 greatestRoad (r .length)) roadLengthRefused _ (purpose .1) in
+    let start = fault-accepted (outsideℤ lowestStart highestStart (r .«start_height»)) startRefused _ (length .1) in
+    let grade = fault-accepted (steep (r .«first_grade»)) gradeRefused _ (start .1) in
+    let v = inside leastSpeed greatestSpeed (r .speed) (speed .0) in
+    let p = inside firstDecision lastPurpose (r .purpose) (purpose .0) in
+    let l = inside 1 greatestRoad (r .length) (length .0) in
+    let h = inside-ℤ lowestStart highestStart (r .«start_height») (start .0) in
+    let g = inside-ℤ (negℤ (pos greatestGrade)) (pos greatestGrade) (r .«first_grade») (grade .0) in
+    record {
+      count = nltb→le greatestCurveCount (r .count) (count .0);
+      speed-low = v .0;
+      speed-high = v .1;
+      purpose-low = p .0;
+      purpose-high = p .1;
+      length-low = l .0;
+      length-high = l .1;
+      start-low = h .0;
+      start-high = h .1;
+      grade-low = g .0;
+      grade-high = g .1;
+      curves = grade .1;
+    }
+
+pub sound-road : (r : Road) → SoundRoad r → roadVerdict r ≡ Accepted
+unfolding roadVerdict
+sound-road r s =
+    simp (le-ltb _ _ (s .count), le-ltb _ _ (s .speed-low), le-ltb _ _ (s .speed-high), le-ltb _ _ (s .purpose-low), le-ltb _ _ (s .purpose-high), le-ltb _ _ (s .length-low), le-ltb _ _ (s .length-high), le-ltZ (s .start-low), le-ltZ (s .start-high), le-ltZ (s .grade-low), le-ltZ (s .grade-high)) (s .curves)

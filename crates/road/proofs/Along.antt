@@ -1,0 +1,142 @@
+-- Laws of a walk along the profile: how far from zero its heights can be, and what the exact profile is on a straight, on a
+-- curve and past its end.
+use Prim.Native.Nat.{ℕ, zero, suc, _+_, _*_, _-_, _≤_, _<_}
+use mathlib.Core.Path.{_≡_, refl, sym, ap, _∙_}
+use mathlib.Core.Bool.{true}
+use mathlib.Core.List.{List, [], _∷_}
+use borrow.Author.Tests.{le-leb, lt-leb}
+use native.Mathlib.Nat.{mul-le-mul-left, div-lt-iff-lt-mul, div-le-of-le-mul}
+use native.Mathlib.Omega.{arith}
+use lib.IntN.{ℤ, pos, negsuc, natAbs, negℤ, _+ℤ_, _-ℤ_, _*ℤ_}
+use lib.Signed.{_≤ℤ_}
+use mir.Syntax.{Width}
+use mir.Val.{toZ, ofZ}
+use Rattle.whole.specs.Fill.{filled}
+use Rattle.whole.specs.Floor.{whole, floorDiv, floor}
+use Rattle.whole.proofs.Fill.{filled-cong, filled-join}
+use Rattle.whole.proofs.Floor.{floor-plus, floor-whole}
+use Rattle.whole.proofs.Int.{nat, var, neg, le-to}
+use Rattle.whole.proofs.Range.{Reads, readR, add-size, neg-size, mul-size}
+use Rattle.terms.specs.Limits.{highestStart, greatestGrade, greatestRoad}
+use Rattle.road.specs.declared.Curve.{Curve}
+use Rattle.road.specs.declared.Walk.{Walk}
+use Rattle.road.specs.Road.{begin, end, half}
+use Rattle.road.specs.Profile.{straight, onCurve, endHeight, exactFrom}
+use Rattle.road.specs.Walk.{Near, Mild, heightAlong, heightOver, exactAhead, along, past}
+use Rattle.road.proofs.Accepted.{SoundCurve}
+
+-- ---- sizes
+-- the farthest from zero that a walk on a road stands
+abbrev pub farthest : ℕ
+farthest = natAbs highestStart + greatestGrade * greatestRoad
+
+-- a signed number of a known size, as the machine reads it
+abbrev pub knownR : (w : Width) (z : ℤ) (b : ℕ) → natAbs z ≤ b → Reads (toZ w (ofZ w z)) z
+knownR w z b h = readR w record { size = record { b = b; ok = h }; good = true; same = λ t. refl }
+
+-- a number in a range that reaches no farther down than up
+pub range-size : {a b : ℕ} (z : ℤ) → a ≤ b → negℤ (pos a) ≤ℤ z → z ≤ℤ pos b → natAbs z ≤ b
+range-size {b} (pos n) l low high = omega (arith, le-to high (nat n) (nat b))
+range-size {a} (negsuc n) l low high = omega (arith, le-to low (neg (nat a)) (var (negsuc n)))
+
+pub near-height : (at : Walk) → Near at → at .station ≤ greatestRoad → natAbs (at .height) ≤ farthest
+near-height at n l = omega (arith, n .height-size)
+
+-- on along the straight
+pub near-along : (at : Walk) (x : ℕ) → Near at → at .station ≤ x → Near (along at x)
+near-along at x n l =
+    let d = x - at .station in
+    let rise = mul-size (at .grade) (pos d) greatestGrade d (n .grade-size) (omega arith) in
+    let sum = add-size (at .height) (at .grade *ℤ pos d) _ _ (n .height-size) rise in
+    record { height-size = omega arith; grade-size = n .grade-size }
+
+-- two walks are the same by their numbers
+pub walk-same : {x y : ℕ} {h k f g : ℤ} → x ≡ y → h ≡ k → f ≡ g →
+    _≡_ {A = Walk} record { station = x; height = h; grade = f } record { station = y; height = k; grade = g }
+walk-same e p q = rw (e, p, q) refl
+
+-- ---- on a curve
+-- rounded down, a quotient is no larger than any whole bound on it
+floor-size-by : (n : ℤ) (d k : ℕ) → natAbs n ≤ k * d → natAbs (floorDiv n (pos d)) ≤ k
+unfolding floorDiv
+floor-size-by n zero k h = omega arith
+floor-size-by (pos n) (suc d) k h = div-le-of-le-mul (suc d) (omega arith)
+floor-size-by (negsuc n) (suc d) k h = omega (arith, div-lt-iff-lt-mul {k = suc d} {x = n} {y = k} (omega arith) .1 (omega arith))
+
+-- what the bend adds to the straight from its begin: at most half of what the grades differ by, a metre
+pub bend-size : (gin gout : ℤ) (L d : ℕ) → natAbs gin ≤ greatestGrade → natAbs gout ≤ greatestGrade → d ≤ L →
+    natAbs (floorDiv ((gout -ℤ gin) *ℤ pos d *ℤ pos d) (pos (2 * L))) ≤ greatestGrade * d
+bend-size gin gout L d hin hout l =
+    let turn = add-size gout (negℤ gin) _ _ hout (neg-size gin _ hin) in
+    let once = mul-size (gout -ℤ gin) (pos d) (2 * greatestGrade) d (omega arith) (omega arith) in
+    let twice = mul-size ((gout -ℤ gin) *ℤ pos d) (pos d) (2 * greatestGrade * d) d (omega arith) (omega arith) in
+    let run = mul-le-mul-left (greatestGrade * d) l in
+    floor-size-by ((gout -ℤ gin) *ℤ pos d *ℤ pos d) (2 * L) (greatestGrade * d) (omega arith)
+
+-- the stored height there: the straight's, and the bend rounded down
+pub curve-floor : (z gin gout : ℤ) (L d : ℕ) → 0 < L →
+    floor (onCurve z gin gout L d) ≡ straight z gin d +ℤ floorDiv ((gout -ℤ gin) *ℤ pos d *ℤ pos d) (pos (2 * L))
+curve-floor z gin gout L d l = floor-plus (straight z gin d) ((gout -ℤ gin) *ℤ pos d *ℤ pos d) (omega arith)
+
+-- ---- the exact profile at the next curve
+module _ (x₀ : ℕ) (z g : ℤ) (c : Curve) (cs : List Curve) (x : ℕ) where
+  pub exact-before : x ≤ begin c → exactFrom x₀ z g (c ∷ cs) x ≡ whole (straight z g (x - x₀))
+  unfolding exactFrom
+  exact-before l = simp (le-leb _ _ l)
+
+  pub exact-on : begin c < x → x ≤ end c →
+      exactFrom x₀ z g (c ∷ cs) x ≡ onCurve (straight z g (begin c - x₀)) g (c .«grade_out») (c .length) (x - begin c)
+  unfolding exactFrom
+  exact-on l u = simp (lt-leb _ _ l, le-leb _ _ u)
+
+  pub exact-past : end c < x →
+      exactFrom x₀ z g (c ∷ cs) x ≡ exactFrom (end c) (endHeight (straight z g (begin c - x₀)) g c) (c .«grade_out») cs x
+  unfolding exactFrom
+  exact-past l =
+      let after : begin c < x = omega arith in
+      simp (lt-leb _ _ after, lt-leb _ _ l)
+
+-- up to its end the curves behind it do not count
+pub exact-upto : (x₀ : ℕ) (z g : ℤ) (c : Curve) (cs : List Curve) (x : ℕ) → x ≤ end c →
+    exactFrom x₀ z g (c ∷ cs) x ≡ exactFrom x₀ z g (c ∷ []) x
+unfolding exactFrom
+exact-upto x₀ z g c cs x u = simp (le-leb _ _ u)
+
+-- ---- rows
+-- two rows end to end, each as the whole row says
+pub filled-then : (f g h : ℕ → ℤ) (i n j m k : ℕ) (xs ys zs : List ℤ) → ys ≡ filled f i n xs → zs ≡ filled g j m ys →
+    j ≡ i + n → k ≡ n + m → ((x : ℕ) → i ≤ x → x < j → f x ≡ h x) → ((x : ℕ) → j ≤ x → x < j + m → g x ≡ h x) →
+    zs ≡ filled h i k xs
+filled-then f g h i n j m k xs ys zs p q e s first second =
+    q ∙ filled-cong g h j m ys second ∙ rw (p, filled-cong f h i n xs (λ x l u. first x l (omega arith)), e, s) (filled-join h i n m xs)
+
+-- ---- past the curve
+-- a curve without a fault
+pub sound-mild : {n last : ℕ} {c : Curve} → SoundCurve n last c → Mild c
+sound-mild {c = c} s = record {
+  grade-size = range-size {a = greatestGrade} (c .«grade_out») (omega arith) (s .grade-low) (s .grade-high);
+  short = s .short;
+}
+
+-- the walk at its end
+pub near-past : (n : ℕ) (at : Walk) (c : Curve) → Near at → SoundCurve n (at .station) c → Near (past at c)
+near-past n at c near s =
+    let out = sound-mild s .grade-size in
+    let foot = near-along at (begin c) near (s .ordered) in
+    let turn = add-size (at .grade) (c .«grade_out») _ _ (near .grade-size) out in
+    let rise = mul-size (at .grade +ℤ c .«grade_out») (pos (half c)) (greatestGrade + greatestGrade) (half c) turn (omega arith) in
+    let top = add-size (along at (begin c) .height) ((at .grade +ℤ c .«grade_out») *ℤ pos (half c)) _ _ (foot .height-size) rise in
+    record { height-size = omega (arith, s .behind-zero); grade-size = out }
+
+-- the row along the straight and the row over the curve are the profile's up to the curve's end
+pub filled-past : (n b : ℕ) (at foot : Walk) (c : Curve) (xs ys zs : List ℤ) → SoundCurve n (at .station) c → b ≡ begin c → foot ≡ along at b →
+    ys ≡ filled (heightAlong at) (at .station + 1) (b - at .station) xs →
+    zs ≡ filled (heightOver foot c) (foot .station + 1) (c .length) ys →
+    zs ≡ filled (λ x. floor (exactAhead at (c ∷ []) x)) (at .station + 1) (end c - at .station) xs
+filled-past n b at foot c xs ys zs s e f p q =
+    let x₀ = at .station in let z = at .height in let g = at .grade in
+    let run : begin c + c .length ≡ end c = omega (arith, s .even, s .behind-zero) in
+    let order : x₀ ≤ begin c = s .ordered in
+    filled-then _ _ _ (x₀ + 1) (begin c - x₀) (begin c + 1) (c .length) (end c - x₀) xs ys zs (rw e at p) (rw (f, e) at q) (omega arith) (omega arith)
+    (λ x l u. sym (floor-whole (straight z g (x - x₀))) ∙ ap floor (sym (exact-before x₀ z g c [] x (omega arith))))
+    (λ x l u. ap floor (sym (exact-on x₀ z g c [] x (omega arith) (omega arith))))

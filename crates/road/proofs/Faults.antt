@@ -1,0 +1,85 @@
+-- Verdicts of curves in turn: the first fault among them decides.
+use Prim.Native.Nat.{ℕ, _+_, _≤_, _<_, _%_}
+use mathlib.Core.Bool.{Bool, true, false, not, _||_}
+use mathlib.Core.List.{List, [], _∷_}
+use mathlib.Core.Path.{_≡_, refl}
+use native.Mathlib.Numerals.{add-one}
+use native.Mathlib.Omega.{arith}
+use lib.Dec.{ltb, eqb}
+use lib.ListN.{length, take, drop, getD}
+use lib.Seq.{drop-cons, drop-length, getD-take, length-take-le}
+use Rattle.terms.specs.Answers.{outside, outsideℤ, fault, firstFault}
+use Rattle.terms.specs.Limits.{leastSpeed, greatestSpeed, firstDecision, lastPurpose, greatestRoad, lowestStart, highestStart, greatestCurveCount, greatestCurve}
+use Rattle.terms.proofs.Laws.{ByteFault, fault-byte}
+use Rattle.terms.specs.Refusals.{gradeRefused, curveLengthRefused, curvePlaceRefused, curveOrderRefused}
+use Rattle.terms.specs.declared.Verdict.{Verdict}
+use Rattle.terms.specs.declared.Verdict.the-variants.{Accepted}
+use Rattle.road.specs.declared.Curve.{Curve}
+use Rattle.road.specs.declared.Road.{Road}
+use Rattle.road.specs.Road.{half, begin, end, steep, curvesOf, curveVerdict, curvesVerdict, roadVerdict}
+
+-- ---- one curve
+-- the tests of 11 and of 12
+abbrev pub ill-sized : Curve → Bool
+ill-sized c = not (eqb (c .length % 2) 0) || ltb greatestCurve (c .length)
+
+abbrev pub off-road : ℕ → Curve → Bool
+off-road n c = ltb (c .pvi) (half c) || ltb n (end c)
+
+-- the four tests in turn
+abbrev faults : Bool → Bool → Bool → Bool → Verdict → Verdict
+faults grade size place order rest =
+    fault grade gradeRefused (fault size curveLengthRefused (fault place curvePlaceRefused (fault order curveOrderRefused rest)))
+
+faults-rest : (grade size place order : Bool) (rest : Verdict) →
+    faults grade size place order rest ≡ firstFault (faults grade size place order Accepted) rest
+faults-rest true size place order rest = refl
+faults-rest false true place order rest = refl
+faults-rest false false true order rest = refl
+faults-rest false false false true rest = refl
+faults-rest false false false false rest = refl
+
+-- a curve's own fault; else as the rest says
+pub curve-verdict-rest : (n last : ℕ) (c : Curve) (rest : Verdict) → curveVerdict n last c rest ≡ firstFault (curveVerdict n last c Accepted) rest
+unfolding curveVerdict
+curve-verdict-rest n last c rest =
+    faults-rest (steep (c .«grade_out»)) (ill-sized c) (off-road n c) (ltb (begin c) last) rest
+
+-- ---- the curves from a place on
+-- of the first `count` curves, from place i on: the fault of the curve there; else as the curves after it say
+module _ (n last : ℕ) (cs : List Curve) (count : ℕ) (holds : count ≤ length cs) where
+  pub curves-verdict-step : (i : ℕ) (d : Curve) → i < count →
+      curvesVerdict n last (drop i (take count cs)) ≡ firstFault (curveVerdict n last (getD cs i d) Accepted) (curvesVerdict n (end (getD cs i d)) (drop (i + 1) (take count cs)))
+  unfolding curvesVerdict
+  curves-verdict-step i d h =
+      let k : i < length (take count cs) = rw (length-take-le count cs) h in
+      rw (add-one, drop-cons (take count cs) i d, getD-take count cs i d) (curve-verdict-rest n last (getD cs i d) _)
+
+  pub curves-verdict-end : curvesVerdict n last (drop count (take count cs)) ≡ Accepted
+  unfolding curvesVerdict
+  curves-verdict-end = rw (rw (length-take-le count cs holds) at (drop-length (take count cs)))
+
+-- ---- every fault's number is a byte
+curve-verdict-byte : (n last : ℕ) (c : Curve) (rest : Verdict) → ByteFault rest → ByteFault (curveVerdict n last c rest)
+unfolding curveVerdict
+curve-verdict-byte n last c rest h =
+    fault-byte (steep (c .«grade_out»)) _ _ (omega arith)
+    (fault-byte (ill-sized c) _ _ (omega arith)
+    (fault-byte (off-road n c) _ _ (omega arith)
+    (fault-byte (ltb (begin c) last) _ _ (omega arith) h)))
+
+curves-verdict-byte : (n last : ℕ) (cs : List Curve) → ByteFault (curvesVerdict n last cs)
+unfolding curvesVerdict
+curves-verdict-byte n last [] = tt
+curves-verdict-byte n last (c ∷ cs) = curve-verdict-byte n last c _ (curves-verdict-byte n (end c) cs)
+
+pub road-verdict-byte : (r : Road) → ByteFault (roadVerdict r)
+unfolding roadVerdict
+road-verdict-byte r =
+    fault-byte (ltb greatestCurveCount (r .count)) _ _ (omega arith)
+    (fault-byte (outside leastSpeed greatestSpeed (r .speed)) _ _ (omega arith)
+    (fault-byte (outside firstDecision lastPurpose (r .purpose)) _ _ (omega arith)
+    (fault-byte (outside 1 greatestRoad (r .length)) _ _ (omega arith)
+    (fault-byte (outsideℤ lowestStart highestStart (r .«start_height»)) _ _ (omega arith)
+    (fault-byte (steep (r .«first_grade»)) _ _ (omega arith)
+    (curves-verdict-byte (r .length) 0 (curvesOf r)))))))

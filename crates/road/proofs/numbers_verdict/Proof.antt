@@ -1,0 +1,86 @@
+-- `numbers_verdict` meets its contract: each `return` rewrites the definition by the tests that led to it. A signed field is read
+-- as its bits, which give the number back since it fits.
+use mathlib.Core.Bool.{false}
+use mathlib.Core.Path.{_≡_, sym, _∙_}
+use borrow.Author.Needs.{needs}
+use borrow.Author.Tests.{le-ltb}
+use mir.Syntax.{w16, w32}
+use Rattle.whole.proofs.Machine.{got}
+use Rattle.terms.specs.Answers.{outsideℤ}
+use Rattle.terms.specs.Limits.{lowestStart, highestStart}
+use Rattle.road.specs.Road.{steep, roadVerdict}
+use Rattle.road.proofs.numbers_verdict.Statement.{statement}
+use Rattle.road.proofs.numbers_verdict.Tie as tie
+
+cast-speed : tie.Need-cast-speed
+cast-speed c = search needs
+
+returns : tie.Need-returns
+unfolding roadVerdict
+returns c = simp (le-ltb _ _ (c .before .before .pre), c .if1 .taken)
+
+cast-purpose : tie.Need-cast-purpose
+cast-purpose c = search needs
+
+returns-2 : tie.Need-returns-2
+unfolding roadVerdict
+returns-2 c =
+    let speed = c .before .before in
+    simp (le-ltb _ _ (speed .before .before .pre), speed .if1 .left, c .if2 .taken)
+
+returns-3 : tie.Need-returns-3
+unfolding roadVerdict
+returns-3 c =
+    let purpose = c .before in
+    let speed = purpose .before .before in
+    simp (le-ltb _ _ (speed .before .before .pre), speed .if1 .left, purpose .if2 .left, c .if3 .taken)
+
+returns-4 : tie.Need-returns-4
+unfolding roadVerdict
+returns-4 c =
+    let length = c .before .before in
+    let purpose = length .before in
+    let speed = purpose .before .before in
+    simp (le-ltb _ _ (speed .before .before .pre), speed .if1 .left, purpose .if2 .left, length .if3 .left, rw (got w32 _ (c .before .struct-told .given .1 .1 .1 .0 .1)) at (c .if4 .taken))
+
+start-passed : (c : tie.Else4) → outsideℤ lowestStart highestStart (c .before .before .before .before .before .before .before .args .road .«start_height») ≡ false
+start-passed c = rw (got w32 _ (c .before .struct-told .given .1 .1 .1 .0 .1)) at (c .if4 .left)
+
+too-steep-requires : tie.Need-too-steep-requires
+too-steep-requires c κs = search needs
+
+grade-tested : (c : tie.After-too-steep) →
+    steep (c .before .before .before .before .before .before .before .before .before .args .road .«first_grade») ≡ c .too-steep .result
+grade-tested c = sym (rw (got w16 _ (c .before .struct-told2 .given .1 .1 .1 .1 .0 .1)) at (c .too-steep .ensures))
+
+returns-5 : tie.Need-returns-5
+unfolding roadVerdict
+returns-5 c =
+    let start = c .before .before .before in
+    let length = start .before .before in
+    let purpose = length .before in
+    let speed = purpose .before .before in
+    simp (le-ltb _ _ (speed .before .before .pre), speed .if1 .left, purpose .if2 .left, length .if3 .left, start-passed start, grade-tested (c .before) ∙ c .if5 .taken)
+
+returns-6 : tie.Need-returns-6
+unfolding roadVerdict
+returns-6 c =
+    let start = c .before .before .before in
+    let length = start .before .before in
+    let purpose = length .before in
+    let speed = purpose .before .before in
+    simp (le-ltb _ _ (speed .before .before .pre), speed .if1 .left, purpose .if2 .left, length .if3 .left, start-passed start, grade-tested (c .before) ∙ c .if5 .left)
+
+pub numbers-verdict-spec : {M : Type 1} → statement M
+numbers-verdict-spec =
+    tie.close
+    (tie.spec
+    cast-speed
+    returns
+    cast-purpose
+    returns-2
+    returns-3
+    returns-4
+    too-steep-requires
+    returns-5
+    returns-6)

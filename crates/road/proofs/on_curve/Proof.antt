@@ -1,0 +1,147 @@
+-- `road::on_curve` meets its contract. The height is that on the straight and the bend rounded down (`curve-floor`); the bend
+-- is small (`bend-size`), so that the sum fits 32 bits.
+use Prim.Native.Nat.{_*_}
+use mathlib.Core.Bool.{true}
+use mathlib.Core.Path.{_≡_, refl, sym, ap, _∙_}
+use borrow.Author.Needs.{needs}
+use native.Mathlib.Omega.{arith}
+use lib.IntN.{pos, natAbs, _-ℤ_, _*ℤ_}
+use mir.Syntax.{w16, w32, w64}
+use mir.Val.{toZ, ofZ}
+use Rattle.whole.specs.Floor.{floorDiv}
+use Rattle.whole.proofs.Floor.{floorR}
+use Rattle.whole.proofs.Range.{Reads, mulB, natB, countR, mulR, fits-by, same-by, sizes}
+use Rattle.whole.proofs.Range.{reads as reading}
+use Rattle.terms.specs.Limits.{greatestGrade, greatestCurve}
+use Rattle.road.proofs.Along.{farthest, knownR, near-height, bend-size, curve-floor}
+use Rattle.road.proofs.on_curve.Statement.{statement}
+use Rattle.road.proofs.on_curve.Tie as tie
+
+-- what is read
+module _ (s : tie.Start) where
+  abbrev grade-in : Reads (toZ w16 (ofZ w16 (s .args .at .grade))) (s .args .at .grade)
+  grade-in = knownR w16 (s .args .at .grade) greatestGrade (s .pre .0 .grade-size)
+
+  abbrev grade-out : Reads (toZ w16 (ofZ w16 (s .args .c .«grade_out»))) (s .args .c .«grade_out»)
+  grade-out = knownR w16 (s .args .c .«grade_out») greatestGrade (s .pre .1 .grade-size)
+
+  abbrev height : Reads (toZ w32 (ofZ w32 (s .args .at .height))) (s .args .at .height)
+  height = knownR w32 (s .args .at .height) farthest (near-height (s .args .at) (s .pre .0) (omega arith))
+
+  abbrev metres : Reads (toZ w64 (s .args .d)) (pos (s .args .d))
+  metres = countR w64 (s .args .d) greatestCurve (omega arith)
+
+  abbrev run : Reads (toZ w64 (s .args .c .length)) (pos (s .args .c .length))
+  run = countR w64 (s .args .c .length) greatestCurve (omega arith)
+
+cast-x : tie.Need-cast-x
+cast-x c = search needs
+
+cast-g : tie.Need-cast-g
+cast-g c = let g = grade-in (c .before .before) .size in fits-by (search sizes depth 16) tt
+
+cast-floor-div : tie.Need-cast-floor-div
+cast-floor-div c = let o = grade-out (c .before .before .before .before) .size in fits-by (search sizes depth 16) tt
+
+sub-floor-div : tie.Need-sub-floor-div
+sub-floor-div c =
+    let s = c .before .before .before .before in let g = grade-in s .size in let o = grade-out s .size in
+    fits-by (search sizes depth 16) tt
+
+mul-floor-div : tie.Need-mul-floor-div
+mul-floor-div c =
+    let s = c .before .before .before .before in let g = grade-in s .size in let o = grade-out s .size in let d = metres s .size in
+    fits-by (search sizes depth 16) tt
+
+mul-floor-div-2 : tie.Need-mul-floor-div-2
+mul-floor-div-2 c =
+    let s = c .before .before .before .before in let g = grade-in s .size in let o = grade-out s .size in let d = metres s .size in
+    fits-by (search sizes depth 16) tt
+
+cast-floor-div-2 : tie.Need-cast-floor-div-2
+cast-floor-div-2 c = search needs
+
+mul-floor-div-3 : tie.Need-mul-floor-div-3
+mul-floor-div-3 c =
+    fits-by (mulB (natB 2 (omega arith)) (run (c .before .before .before .before .before) .size)) tt
+
+floor-div-requires : tie.Need-floor-div-requires
+floor-div-requires c κs = search needs
+
+-- what the call gives
+module _ (f : tie.After-floor-div) where
+  abbrev start : tie.Start
+  start = f .before .before .before .before .before .before
+
+  bend-is : f .floor-div .result ≡
+      floorDiv ((start .args .c .«grade_out» -ℤ start .args .at .grade) *ℤ pos (start .args .d) *ℤ pos (start .args .d)) (pos (2 * start .args .c .length))
+  bend-is =
+      let g = grade-in start in let o = grade-out start in let d = metres start in
+      let two : Reads (pos 2) (pos 2) = record { size = natB 2 (omega arith); good = true; same = λ _. refl } in
+      let r : Reads (pos 2 *ℤ toZ w64 (start .args .c .length)) (pos (2 * start .args .c .length)) = mulR {y = pos (start .args .c .length)} two (run start) in
+      f .floor-div .ensures ∙ same-by (search (reading, floorR) depth 20) tt
+
+  abbrev bend : Reads (f .floor-div .result)
+      (floorDiv ((start .args .c .«grade_out» -ℤ start .args .at .grade) *ℤ pos (start .args .d) *ℤ pos (start .args .d)) (pos (2 * start .args .c .length)))
+  bend = record {
+    size = record {
+      b = greatestGrade * greatestCurve;
+      ok = omega (arith, bend-size (start .args .at .grade) (start .args .c .«grade_out») (start .args .c .length) (start .args .d) (start .pre .0 .grade-size) (start .pre .1 .grade-size) (omega arith), ap natAbs bend-is);
+    };
+    good = true;
+    same = λ _. bend-is;
+  }
+
+cast-result : tie.Need-cast-result
+cast-result c =
+    let h = height (start (c .before .before)) .size in
+    fits-by (search sizes depth 16) tt
+
+mul-result : tie.Need-mul-result
+mul-result c =
+    let s = start (c .before .before) in let g = grade-in s .size in let d = metres s .size in
+    fits-by (search sizes depth 16) tt
+
+add-result : tie.Need-add-result
+add-result c =
+    let s = start (c .before .before) in let h = height s .size in let g = grade-in s .size in let d = metres s .size in
+    fits-by (search sizes depth 16) tt
+
+add-result-2 : tie.Need-add-result-2
+add-result-2 c =
+    let s = start (c .before .before) in let h = height s .size in let g = grade-in s .size in let d = metres s .size in
+    let b = bend (c .before .before) .size in
+    fits-by (search sizes depth 16) tt
+
+cast-result-2 : tie.Need-cast-result-2
+cast-result-2 c =
+    let s = start (c .before .before) in let h = height s .size in let g = grade-in s .size in let d = metres s .size in
+    let b = bend (c .before .before) .size in
+    fits-by (search sizes depth 16) tt
+
+returns : tie.Need-returns
+returns c =
+    let s = start (c .before .before) in let h = height s in let g = grade-in s in let d = metres s in
+    let b = bend (c .before .before) in
+    same-by (search reading depth 20) tt
+    ∙ sym (curve-floor (s .args .at .height) (s .args .at .grade) (s .args .c .«grade_out») (s .args .c .length) (s .args .d) (omega arith))
+
+pub on-curve-spec : {M : Type 1} → statement M
+on-curve-spec =
+    tie.close
+    (tie.spec
+    cast-x
+    cast-g
+    cast-floor-div
+    sub-floor-div
+    mul-floor-div
+    mul-floor-div-2
+    cast-floor-div-2
+    mul-floor-div-3
+    floor-div-requires
+    cast-result
+    mul-result
+    add-result
+    add-result-2
+    cast-result-2
+    returns)

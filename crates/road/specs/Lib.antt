@@ -1,0 +1,4 @@
+pub mod Road
+pub mod Profile
+pub mod Heights
+pub mod Walk

@@ -1,0 +1,57 @@
+-- Document 01, "The road and its heights" and "Road file": when a road handed over as a value is accepted. The refusals are
+-- 4, then 6 to 13; the lowest curve with a fault decides.
+use Prim.Native.Nat.{ℕ, _+_, _-_, _/_, _%_}
+use mathlib.Core.Bool.{Bool, not, _||_}
+use mathlib.Core.List.{List, [], _∷_}
+use lib.Dec.{ltb, eqb}
+use lib.IntN.{ℤ, pos, negℤ}
+use lib.ListN.{take}
+use Rattle.terms.specs.Answers.{outside, outsideℤ, fault}
+use Rattle.terms.specs.Limits.{leastSpeed, greatestSpeed, firstDecision, lastPurpose, greatestRoad, lowestStart, highestStart, greatestGrade, greatestCurveCount, greatestCurve}
+use Rattle.terms.specs.Refusals.{curveCountRefused, speedRefused, purposeRefused, roadLengthRefused, startRefused, gradeRefused, curveLengthRefused, curvePlaceRefused, curveOrderRefused}
+use Rattle.terms.specs.declared.Verdict.{Verdict}
+use Rattle.terms.specs.declared.Verdict.the-variants.{Accepted}
+use Rattle.road.specs.declared.Curve.{Curve}
+use Rattle.road.specs.declared.Road.{Road}
+
+-- a curve reaches half its length to either side of its PVI; it begins and ends there
+abbrev pub half : Curve → ℕ
+half c = c .length / 2
+
+abbrev pub begin : Curve → ℕ
+begin c = c .pvi - half c
+
+abbrev pub end : Curve → ℕ
+end c = c .pvi + half c
+
+-- the curves in use: the first n places
+abbrev pub curvesOf : Road → List Curve
+curvesOf r = take (r .count) (r .curves)
+
+-- a grade beyond −1,500 to 1,500
+abbrev pub steep : ℤ → Bool
+steep g = outsideℤ (negℤ (pos greatestGrade)) (pos greatestGrade) g
+
+-- the faults of one curve of a road of length n, behind a curve that ends at last: 10, 11, 12, 13, else as the rest says
+unfoldable pub curveVerdict : ℕ → ℕ → Curve → Verdict → Verdict
+curveVerdict n last c rest =
+    fault (steep (c .«grade_out»)) gradeRefused
+    (fault (not (eqb (c .length % 2) 0) || ltb greatestCurve (c .length)) curveLengthRefused
+    (fault (ltb (c .pvi) (half c) || ltb n (end c)) curvePlaceRefused
+    (fault (ltb (begin c) last) curveOrderRefused rest)))
+
+-- the curves in turn, each behind the one listed just before it
+unfoldable pub curvesVerdict : ℕ → ℕ → List Curve → Verdict
+curvesVerdict n last [] = Accepted
+curvesVerdict n last (c ∷ cs) = curveVerdict n last c (curvesVerdict n (end c) cs)
+
+-- 4, 6, 7, 8, 9, 10, then the curves; the first of them lies behind station 0
+unfoldable pub roadVerdict : Road → Verdict
+roadVerdict r =
+    fault (ltb greatestCurveCount (r .count)) curveCountRefused
+    (fault (outside leastSpeed greatestSpeed (r .speed)) speedRefused
+    (fault (outside firstDecision lastPurpose (r .purpose)) purposeRefused
+    (fault (outside 1 greatestRoad (r .length)) roadLengthRefused
+    (fault (outsideℤ lowestStart highestStart (r .«start_height»)) startRefused
+    (fault (steep (r .«first_grade»)) gradeRefused
+    (curvesVerdict (r .length) 0 (curvesOf r)))))))

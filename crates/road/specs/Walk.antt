@@ -1,0 +1,43 @@
+-- A walk along the profile, for the functions that fill the heights: how far from zero it can be, where it leads, and the heights
+-- ahead of it.
+use Prim.Native.Nat.{ℕ, _+_, _-_, _*_, _≤_}
+use mathlib.Core.List.{List}
+use lib.IntN.{ℤ, natAbs}
+use Rattle.whole.specs.Floor.{Frac, floor}
+use Rattle.terms.specs.Limits.{highestStart, greatestGrade, greatestCurve}
+use Rattle.road.specs.declared.Curve.{Curve}
+use Rattle.road.specs.declared.Walk.{Walk}
+use Rattle.road.specs.Road.{begin, end}
+use Rattle.road.specs.Profile.{straight, onCurve, endHeight, exactFrom}
+
+-- from a start height in its range, each metre leads at most the greatest grade up or down
+pub record Near (at : Walk) : Type 0 where
+  pub height-size : natAbs (at .height) ≤ natAbs highestStart + greatestGrade * at .station
+  pub grade-size : natAbs (at .grade) ≤ greatestGrade
+
+-- a curve whose grade out and length are in their ranges
+pub record Mild (c : Curve) : Type 0 where
+  pub grade-size : natAbs (c .«grade_out») ≤ greatestGrade
+  pub short : c .length ≤ greatestCurve
+
+-- the height at station x: on along the straight; on a curve that begins here; with the curves cs ahead
+abbrev pub heightAlong : Walk → ℕ → ℤ
+heightAlong at x = straight (at .height) (at .grade) (x - at .station)
+
+abbrev pub heightOver : Walk → Curve → ℕ → ℤ
+heightOver at c x = floor (onCurve (at .height) (at .grade) (c .«grade_out») (c .length) (x - at .station))
+
+abbrev pub exactAhead : Walk → List Curve → ℕ → Frac
+exactAhead at cs x = exactFrom (at .station) (at .height) (at .grade) cs x
+
+-- the walk at station x further on along the straight
+abbrev pub along : Walk → ℕ → Walk
+along at x = record { station = x; height = heightAlong at x; grade = at .grade }
+
+-- at the end of a curve that begins here
+abbrev pub over : Walk → Curve → Walk
+over at c = record { station = end c; height = endHeight (at .height) (at .grade) c; grade = c .«grade_out» }
+
+-- at the end of the next curve
+abbrev pub past : Walk → Curve → Walk
+past at c = over (along at (begin c)) c
