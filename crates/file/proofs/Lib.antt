@@ -1,0 +1,6 @@
+pub mod Bytes
+pub mod Filled
+pub mod Sound
+pub mod ReadBack
+pub mod WrittenBack
+pub mod RoundTrip

@@ -1,0 +1,89 @@
+-- What acceptance of a file says: its header is sound and its road accepted; and the other way round.
+use mathlib.Core.Path.{_≡_, refl, ap, _∙_}
+use mathlib.Core.Bool.{Bool, true, false, not, _||_}
+use mathlib.Core.List.{List}
+use Prim.Native.Nat.{ℕ, _≤_}
+use native.Mathlib.Omega.{arith}
+use borrow.Author.Tests.{le-ltb, eq-eqb}
+use lib.Dec.{T, ltb, eqb, eqb→eq, nltb→le}
+use lib.ListN.{length}
+use Rattle.terms.specs.Limits.{greatestCurveCount}
+use Rattle.terms.specs.Refusals.{shortFileRefused, lettersRefused, versionRefused, curveCountRefused, totalRefused}
+use Rattle.terms.specs.declared.Verdict.the-variants.{Accepted, Fault}
+use Rattle.terms.proofs.Laws.{ByteFault, fault-accepted, fault-byte, neither}
+use Rattle.road.specs.Road.{roadVerdict}
+use Rattle.road.proofs.Faults.{road-verdict-byte}
+use Rattle.file.specs.declared.ReadRoad.{ReadRoad}
+use Rattle.file.specs.File.{byteAt, u16At, version, roadIn, noRoad}
+use Rattle.file.specs.Operations.{fileLength, differs, readVerdict, readRoad}
+
+pub record SoundFile (s : List ℕ) : Type 0 where
+  pub letter-V : byteAt s 0 ≡ 86
+  pub letter-C : byteAt s 1 ≡ 67
+  pub letter-P : byteAt s 2 ≡ 80
+  pub first-version : u16At s 3 ≡ version
+  pub count : byteAt s 15 ≤ greatestCurveCount
+  pub total : length s ≡ fileLength (byteAt s 15)
+  pub road : roadVerdict (roadIn s) ≡ Accepted
+
+same-if : (m n : ℕ) → T (not (not (eqb m n))) → m ≡ n
+same-if m n t = eqb→eq m n (go (eqb m n) t)
+  where
+    go : (b : Bool) → T (not (not b)) → T b
+    go true t = t
+    go false t = t
+
+pub accepted-file : (s : List ℕ) → readVerdict s ≡ Accepted → SoundFile s
+unfolding readVerdict
+accepted-file s e =
+    let short = fault-accepted (ltb (length s) (fileLength 0)) shortFileRefused _ e in
+    let letters = fault-accepted (not (eqb (byteAt s 0) 86) || not (eqb (byteAt s 1) 67) || not (eqb (byteAt s 2) 80)) lettersRefused _ (short .1) in
+    let versions = fault-accepted (not (eqb (u16At s 3) version)) versionRefused _ (letters .1) in
+    let count = fault-accepted (ltb greatestCurveCount (byteAt s 15)) curveCountRefused _ (versions .1) in
+    let total = fault-accepted (not (eqb (length s) (fileLength (byteAt s 15)))) totalRefused _ (count .1) in
+    let p = neither (not (eqb (byteAt s 0) 86) || not (eqb (byteAt s 1) 67)) (not (eqb (byteAt s 2) 80)) (letters .0) in
+    let v = neither (not (eqb (byteAt s 0) 86)) (not (eqb (byteAt s 1) 67)) (p .0) in
+    record {
+      letter-V = same-if (byteAt s 0) 86 (v .0);
+      letter-C = same-if (byteAt s 1) 67 (v .1);
+      letter-P = same-if (byteAt s 2) 80 (p .1);
+      first-version = same-if (u16At s 3) version (versions .0);
+      count = nltb→le greatestCurveCount (byteAt s 15) (count .0);
+      total = same-if (length s) (fileLength (byteAt s 15)) (total .0);
+      road = total .1;
+    }
+
+pub sound-file : (s : List ℕ) → SoundFile s → readVerdict s ≡ Accepted
+unfolding readVerdict
+sound-file s f =
+    simp (le-ltb (length s) (fileLength 0) (omega arith), eq-eqb _ _ (f .letter-V), eq-eqb _ _ (f .letter-C), eq-eqb _ _ (f .letter-P), eq-eqb _ _ (f .first-version), le-ltb _ _ (f .count), eq-eqb _ _ (f .total))
+    (f .road)
+
+-- ---- what reading answers, by its verdict
+pub read-fault : (s : List ℕ) (k : ℕ) → readVerdict s ≡ Fault k → readRoad s ≡ record { verdict = Fault k; road = noRoad }
+unfolding readRoad
+read-fault s k e = rw e refl
+
+pub read-accepted : (s : List ℕ) → readVerdict s ≡ Accepted → readRoad s ≡ record { verdict = Accepted; road = roadIn s }
+unfolding readRoad
+read-accepted s e = rw e refl
+
+-- what a caller of `read` has in hand: the answer's two parts
+module _ (s : List ℕ) (r : ReadRoad) (e : r ≡ readRoad s) where
+  pub verdict-read : r .verdict ≡ readVerdict s
+  unfolding readRoad
+  verdict-read = ap (λ (x : ReadRoad). x .verdict) e
+
+  pub road-read : readVerdict s ≡ Accepted → r .road ≡ roadIn s
+  road-read a = ap (λ (x : ReadRoad). x .road) (e ∙ read-accepted s a)
+
+-- every fault's number is a byte
+pub read-verdict-byte : (s : List ℕ) → ByteFault (readVerdict s)
+unfolding readVerdict
+read-verdict-byte s =
+    fault-byte (ltb (length s) (fileLength 0)) _ _ (omega arith)
+    (fault-byte (differs s 0 86 || differs s 1 67 || differs s 2 80) _ _ (omega arith)
+    (fault-byte (not (eqb (u16At s 3) version)) _ _ (omega arith)
+    (fault-byte (ltb greatestCurveCount (byteAt s 15)) _ _ (omega arith)
+    (fault-byte (not (eqb (length s) (fileLength (byteAt s 15)))) _ _ (omega arith)
+    (road-verdict-byte (roadIn s))))))

@@ -1,0 +1,129 @@
+-- The road in the bytes of an accepted road is that road: each of its numbers fits its place, so its bytes give it back.
+use mathlib.Core.Path.{_≡_, refl, sym, ap, _∙_}
+use mathlib.Core.List.{List, [], _∷_}
+use Prim.Native.Nat.{ℕ, zero, suc, _+_, _*_, _/_, _%_, _≤_, _<_}
+use native.Mathlib.Omega.{arith}
+use lib.IntN.{ℤ, pos, negsuc, negℤ}
+use lib.ListN.{length, getD, take, replicate, length-replicate}
+use lib.Seq.{ext-getD, getD-take, length-take-le}
+use lib.Signed.{_≤ℤ_}
+use mir.Syntax.{Width, w16, w32}
+use mir.Val.{SFits, toZ, ofZ}
+use Rattle.whole.specs.Fill.{filled}
+use Rattle.whole.proofs.Int.{var, nat, le-to}
+use Rattle.whole.proofs.Fill.{filled-length, filled-at, filled-cong}
+use Rattle.whole.proofs.Machine.{plain}
+use Rattle.whole.proofs.Twos.{bits-below}
+use Rattle.terms.specs.Limits.{greatestCurveCount, greatestRoad, greatestGrade, lowestStart, highestStart}
+use Rattle.terms.specs.declared.Verdict.the-variants.{Accepted}
+use Rattle.road.specs.declared.Curve.{Curve}
+use Rattle.road.specs.declared.Road.{Road}
+use Rattle.road.specs.Road.{end, curvesOf, curvesVerdict, roadVerdict}
+use Rattle.road.proofs.Accepted.{accepted-curve, accepted-road}
+use Rattle.file.specs.File.{byteAt, u16At, noCurve, curveAt, roadIn, headerBytes, curveBytes, fileBytes, SameRoad, cleared}
+use Rattle.file.proofs.Bytes.{from-bytes2, from-bytes4, file-curve}
+
+-- ---- numbers
+-- what lies between two numbers that fit a width fits it
+between-fits : (w : Width) (low high z : ℤ) → low ≤ℤ z → z ≤ℤ high → SFits w low → SFits w high → SFits w z
+between-fits w low (pos m) (pos n) l h p q = record { sfits = omega (arith, le-to h (nat n) (nat m), q .sfits) }
+between-fits w low (negsuc m) (pos n) l h p q = absurd (h .le)
+between-fits w (pos m) high (negsuc n) l h p q = absurd (l .le)
+between-fits w (negsuc m) high (negsuc n) l h p q =
+    record { sfits = omega (arith, le-to l (var (negsuc m)) (var (negsuc n)), p .sfits) }
+
+grade-fits : (z : ℤ) → negℤ (pos greatestGrade) ≤ℤ z → z ≤ℤ pos greatestGrade → SFits w16 z
+grade-fits z l h = between-fits w16 _ _ z l h record { sfits = omega arith } record { sfits = omega arith }
+
+u16-written : (s : List ℕ) (k n : ℕ) → n < 65536 → byteAt s k ≡ n % 256 → byteAt s (k + 1) ≡ n / 256 % 256 → u16At s k ≡ n
+u16-written s k n h p q = rw (p, q) (from-bytes2 n h)
+
+-- ---- curves
+-- the numbers of an accepted curve fit its record
+record FitsRecord (c : Curve) : Type 0 where
+  pvi : c .pvi < 65536
+  size : c .length < 65536
+  grade : SFits w16 (c .«grade_out»)
+
+fits-record : (n last : ℕ) (cs : List Curve) (i : ℕ) → n ≤ greatestRoad → curvesVerdict n last cs ≡ Accepted → i < length cs →
+    FitsRecord (getD cs i noCurve)
+fits-record n last [] i h e l = absurd (omega arith)
+fits-record n last (c ∷ cs) zero h e l =
+    let s = accepted-curve n last c cs e .0 in
+    record {
+      pvi = omega (arith, s .before-end);
+      size = omega (arith, s .short);
+      grade = grade-fits (c .«grade_out») (s .grade-low) (s .grade-high);
+    }
+fits-record n last (c ∷ cs) (suc i) h e l = fits-record n (end c) cs i h (accepted-curve n last c cs e .1) (omega arith)
+
+-- a curve is its three numbers
+curve-is : (c : Curve) (p l : ℕ) (g : ℤ) → p ≡ c .pvi → l ≡ c .length → g ≡ c .«grade_out» →
+    record { pvi = p; length = l; «grade_out» = g } ≡ c
+curve-is c p l g a b d = rw (a, b, d) refl
+
+-- ---- the road
+-- the tests of a road see only its numbers and its first n curves
+pub same-verdict : {a b : Road} → SameRoad a b → roadVerdict a ≡ roadVerdict b
+unfolding roadVerdict
+same-verdict m = rw (m .curves, m .speed, m .purpose, m .length, m .start, m .grade, m .count) refl
+
+module _ (r : Road) (held : length (r .curves) ≡ greatestCurveCount) (accepted : roadVerdict r ≡ Accepted) where
+  pub used : r .count ≤ length (r .curves)
+  used = omega (arith, accepted-road r accepted .count)
+
+  used-fits : (i : ℕ) → i < r .count → FitsRecord (getD (r .curves) i noCurve)
+  used-fits i h =
+      let road = accepted-road r accepted in
+      let l = length-take-le (r .count) (r .curves) used in
+      rw (getD-take (r .count) (r .curves) i noCurve h) at (fits-record (r .length) 0 (curvesOf r) i (road .length-high) (road .curves) (omega arith))
+
+  curve-back : (i : ℕ) → i < r .count → curveAt (fileBytes r) i ≡ getD (r .curves) i noCurve
+  unfolding curveAt curveBytes
+  curve-back i h =
+      let s = fileBytes r in
+      let c = getD (r .curves) i noCurve in
+      let at = 16 + 6 * i in
+      let f = used-fits i h in
+      let byte : (j : ℕ) → j < 6 → byteAt s (at + j) ≡ byteAt (curveBytes c) j = λ j l. file-curve r i j h used l in
+      let first : at + 0 ≡ at = omega arith in
+      let fourth : at + 3 ≡ at + 2 + 1 = omega arith in
+      let sixth : at + 5 ≡ at + 4 + 1 = omega arith in
+      let pvi = u16-written s at (c .pvi) (f .pvi) (rw first at (byte 0 (omega arith))) (byte 1 (omega arith)) in
+      let size = u16-written s (at + 2) (c .length) (f .size) (byte 2 (omega arith)) (rw fourth at (byte 3 (omega arith))) in
+      let grade = u16-written s (at + 4) (ofZ w16 (c .«grade_out»)) (bits-below (f .grade)) (byte 4 (omega arith)) (rw sixth at (byte 5 (omega arith))) in
+      curve-is c (u16At s at) (u16At s (at + 2)) (toZ w16 (u16At s (at + 4))) pvi size (ap (toZ w16) grade ∙ plain (f .grade))
+
+  pub road-back : roadIn (fileBytes r) ≡ cleared r
+  unfolding roadIn cleared fileBytes headerBytes
+  road-back =
+      let road = accepted-road r accepted in
+      let start = between-fits w32 lowestStart highestStart (r .«start_height») (road .start-low) (road .start-high) record { sfits = omega arith } record { sfits = omega arith } in
+      let grade = grade-fits (r .«first_grade») (road .grade-low) (road .grade-high) in
+      cc (
+        from-bytes2 (r .length) (omega (arith, road .length-high)),
+        ap (toZ w32) (from-bytes4 (ofZ w32 (r .«start_height»)) (bits-below start)) ∙ plain start,
+        ap (toZ w16) (from-bytes2 (ofZ w16 (r .«first_grade»)) (bits-below grade)) ∙ plain grade,
+        filled-cong (curveAt (fileBytes r)) (λ (k : ℕ). getD (r .curves) k noCurve) 0 (r .count) (replicate greatestCurveCount noCurve) (λ k l h. curve-back k (omega arith)),
+      )
+
+  pub cleared-same : SameRoad (cleared r) r
+  unfolding cleared
+  cleared-same =
+      let f : ℕ → Curve = λ k. getD (r .curves) k noCurve in
+      let zeros = replicate greatestCurveCount noCurve in
+      let m = filled-length f 0 (r .count) zeros ∙ length-replicate greatestCurveCount noCurve in
+      let t = length-take-le (r .count) (filled f 0 (r .count) zeros) (omega (arith, used)) in
+      let u = length-take-le (r .count) (r .curves) used in
+      record {
+        speed = refl;
+        purpose = refl;
+        length = refl;
+        start = refl;
+        grade = refl;
+        count = refl;
+        curves = ext-getD noCurve (take (r .count) (filled f 0 (r .count) zeros)) (curvesOf r) (t ∙ sym u) (λ k h.
+            getD-take (r .count) (filled f 0 (r .count) zeros) k noCurve (omega arith)
+            ∙ filled-at f 0 (r .count) zeros k noCurve (omega arith) (omega arith) (omega (arith, used, filled-length f 0 (r .count) zeros))
+            ∙ sym (getD-take (r .count) (r .curves) k noCurve (omega arith)));
+      }

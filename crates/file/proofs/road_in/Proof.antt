@@ -1,0 +1,68 @@
+-- `road_in` meets its contract: each field is what its reader ensures.
+use borrow.Author.Needs.{needs}
+use mir.Syntax.{w16, w32}
+use Rattle.whole.proofs.Machine.{got}
+use Rattle.file.specs.File.{roadIn}
+use Rattle.file.proofs.road_in.Statement.{statement}
+use Rattle.file.proofs.road_in.Tie as tie
+
+shared-slice-read-curves-in : tie.Need-shared-slice-read-curves-in
+shared-slice-read-curves-in c = search needs
+
+cast-curves-in : tie.Need-cast-curves-in
+cast-curves-in c = search needs
+
+curves-in-requires : tie.Need-curves-in-requires
+curves-in-requires c κs = search needs
+
+shared-slice-read-t4 : tie.Need-shared-slice-read-t4
+shared-slice-read-t4 c = search needs
+
+shared-slice-read-t8 : tie.Need-shared-slice-read-t8
+shared-slice-read-t8 c = search needs
+
+u16-at-requires : tie.Need-u16-at-requires
+u16-at-requires c κs = search needs
+
+cast-t10 : tie.Need-cast-t10
+cast-t10 c = search needs
+
+u32-at-requires : tie.Need-u32-at-requires
+u32-at-requires c κs = search needs
+
+signed32-requires : tie.Need-signed32-requires
+signed32-requires c κs = search needs
+
+u16-at-requires-2 : tie.Need-u16-at-requires-2
+u16-at-requires-2 c κs = search needs
+
+signed16-requires : tie.Need-signed16-requires
+signed16-requires c κs = search needs
+
+shared-slice-read-t16 : tie.Need-shared-slice-read-t16
+shared-slice-read-t16 c = search needs
+
+returns : tie.Need-returns
+unfolding roadIn
+returns c =
+    let start = c .before .before .before .signed32 in
+    let grade = c .before .signed16 in
+    cc (got w32 (start .result) (start .ok), got w16 (grade .result) (grade .ok))
+
+pub road-in-spec : {M : Type 1} → statement M
+road-in-spec =
+    tie.close
+    (tie.spec
+    shared-slice-read-curves-in
+    cast-curves-in
+    curves-in-requires
+    shared-slice-read-t4
+    shared-slice-read-t8
+    u16-at-requires
+    cast-t10
+    u32-at-requires
+    signed32-requires
+    u16-at-requires-2
+    signed16-requires
+    shared-slice-read-t16
+    returns)

@@ -1,0 +1,76 @@
+-- `write` meets its contract: each `return` rewrites the answer by the verdict and the test that led to it, and `put_file` fills
+-- the buffer.
+use mathlib.Core.Path.{_≡_, refl, sym, _∙_}
+use borrow.Author.Tests.{lt-ltb, le-ltb}
+use borrow.Author.Needs.{needs}
+use native.Mathlib.Omega.{arith}
+use Rattle.terms.specs.declared.Verdict.the-variants.{Accepted}
+use Rattle.road.proofs.Accepted.{accepted-road}
+use Rattle.road.specs.Road.{roadVerdict}
+use Rattle.file.specs.Operations.{writeAnswer, writeList}
+use Rattle.file.proofs.write.Statement.{statement}
+use Rattle.file.proofs.write.Tie as tie
+
+-- the road is accepted where the match says so
+accepted : (c : tie.After-enum-told) → roadVerdict (c .before .before .before .before .args .road) ≡ Accepted
+accepted c = sym (c .before .before .verdict .ensures) ∙ c .enum-told .given .1
+
+verdict-requires : tie.Need-verdict-requires
+verdict-requires c κs = search needs
+
+enum-known-verdict : tie.Need-enum-known-verdict
+enum-known-verdict c = search needs
+
+enum-told : tie.Need-enum-told
+enum-told c = search needs
+
+cast-total : tie.Need-cast-total
+cast-total c = search needs
+
+mul-total : tie.Need-mul-total
+mul-total c = search needs
+
+add-total : tie.Need-add-total
+add-total c = search needs
+
+returns : tie.Need-returns
+unfolding writeAnswer writeList
+returns c = simp (accepted (c .before .before), lt-ltb _ _ (c .if1 .taken)) (refl, refl)
+
+put-file-requires : tie.Need-put-file-requires
+put-file-requires c κs = (accepted-road _ (accepted (c .before .before .before)) .count, omega arith)
+
+cast-t13 : tie.Need-cast-t13
+cast-t13 c = search needs
+
+returns-2 : tie.Need-returns-2
+unfolding writeAnswer writeList
+returns-2 c =
+    let fault = sym (c .before .before .before .verdict .ensures) ∙ c .before .verdict2 .given .1 in
+    simp fault (refl, refl)
+
+same-length : tie.Need-same-length
+same-length c = search needs
+
+returns-3 : tie.Need-returns-3
+unfolding writeAnswer writeList
+returns-3 c =
+    let passed = c .before .before .before .before in
+    simp (accepted (passed .before .before), le-ltb _ _ (passed .if1 .left)) (refl, c .before .before .put-file .ensures)
+
+pub write-spec : {M : Type 1} → statement M
+write-spec =
+    tie.close
+    (tie.spec
+    verdict-requires
+    enum-known-verdict
+    enum-told
+    cast-total
+    mul-total
+    add-total
+    returns
+    put-file-requires
+    cast-t13
+    returns-2
+    same-length
+    returns-3)

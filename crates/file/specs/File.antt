@@ -1,0 +1,115 @@
+-- Document 01, "Road file": where each number stands, and the bytes of a road. All numbers are little-endian, signed ones
+-- two's complement.
+use Prim.Native.Nat.{ℕ, _+_, _*_, _/_, _%_}
+use mathlib.Core.List.{List, [], _∷_, _++_}
+use mathlib.Core.Path.{_≡_}
+use lib.IntN.{ℤ, pos}
+use lib.ListN.{getD, replicate}
+use mir.Syntax.{w16, w32}
+use mir.Val.{toZ, ofZ}
+use Rattle.whole.specs.Fill.{filled}
+use Rattle.terms.specs.Limits.{greatestCurveCount}
+use Rattle.road.specs.declared.Curve.{Curve}
+use Rattle.road.specs.declared.Road.{Road}
+use Rattle.road.specs.Road.{curvesOf}
+
+-- ---- numbers in a file
+abbrev pub byteAt : List ℕ → ℕ → ℕ
+byteAt s k = getD s k 0
+
+abbrev pub u16At : List ℕ → ℕ → ℕ
+u16At s k = byteAt s k + 256 * byteAt s (k + 1)
+
+abbrev pub u32At : List ℕ → ℕ → ℕ
+u32At s k = u16At s k + 65536 * u16At s (k + 2)
+
+abbrev pub i16At : List ℕ → ℕ → ℤ
+i16At s k = toZ w16 (u16At s k)
+
+abbrev pub i32At : List ℕ → ℕ → ℤ
+i32At s k = toZ w32 (u32At s k)
+
+-- ---- the road in a file
+abbrev pub noCurve : Curve
+noCurve = record { pvi = 0; length = 0; «grade_out» = pos 0 }
+
+-- record k of 6 bytes behind the 16 of the header: PVI, length, grade out
+unfoldable pub curveAt : List ℕ → ℕ → Curve
+curveAt s k = let at = 16 + 6 * k in record { pvi = u16At s at; length = u16At s (at + 2); «grade_out» = i16At s (at + 4) }
+
+-- speed at byte 5, purpose at 6, N at 7, start height at 9, first grade at 13, the number of curves n at 15, then n records;
+-- the other curve places are zero
+unfoldable pub roadIn : List ℕ → Road
+roadIn s = record {
+  speed = byteAt s 5;
+  purpose = byteAt s 6;
+  length = u16At s 7;
+  «start_height» = i32At s 9;
+  «first_grade» = i16At s 13;
+  count = byteAt s 15;
+  curves = filled (curveAt s) 0 (byteAt s 15) (replicate greatestCurveCount noCurve);
+}
+
+-- the road of a refused file: all numbers zero
+unfoldable pub noRoad : Road
+noRoad = record {
+  speed = 0;
+  purpose = 0;
+  length = 0;
+  «start_height» = pos 0;
+  «first_grade» = pos 0;
+  count = 0;
+  curves = replicate greatestCurveCount noCurve;
+}
+
+-- ---- the bytes of a road
+abbrev pub bytes2 : ℕ → List ℕ
+bytes2 n = n % 256 ∷ n / 256 % 256 ∷ []
+
+abbrev pub bytes4 : ℕ → List ℕ
+bytes4 n = bytes2 n ++ bytes2 (n / 65536)
+
+-- the letters VCP, and the version
+abbrev pub letters : List ℕ
+letters = 86 ∷ 67 ∷ 80 ∷ []
+
+abbrev pub version : ℕ
+version = 1
+
+unfoldable pub headerBytes : Road → List ℕ
+headerBytes r =
+    letters ++ bytes2 version ++ (r .speed ∷ r .purpose ∷ []) ++ bytes2 (r .length) ++ bytes4 (ofZ w32 (r .«start_height»))
+    ++ bytes2 (ofZ w16 (r .«first_grade»)) ++ (r .count ∷ [])
+
+unfoldable pub curveBytes : Curve → List ℕ
+curveBytes c = bytes2 (c .pvi) ++ bytes2 (c .length) ++ bytes2 (ofZ w16 (c .«grade_out»))
+
+unfoldable pub recordBytes : List Curve → List ℕ
+recordBytes [] = []
+recordBytes (c ∷ cs) = curveBytes c ++ recordBytes cs
+
+unfoldable pub fileBytes : Road → List ℕ
+fileBytes r = headerBytes r ++ recordBytes (curvesOf r)
+
+-- ---- when two roads are the same
+-- all their numbers and their first n curves are
+pub record SameRoad (a b : Road) : Type 0 where
+  pub speed : a .speed ≡ b .speed
+  pub purpose : a .purpose ≡ b .purpose
+  pub length : a .length ≡ b .length
+  pub start : a .«start_height» ≡ b .«start_height»
+  pub grade : a .«first_grade» ≡ b .«first_grade»
+  pub count : a .count ≡ b .count
+  pub curves : curvesOf a ≡ curvesOf b
+
+-- the same road with zero in its unused curve places, as reading makes it
+unfoldable pub cleared : Road → Road
+cleared r = record {
+  speed = r .speed;
+  purpose = r .purpose;
+  length = r .length;
+  «start_height» = r .«start_height»;
+  «first_grade» = r .«first_grade»;
+  count = r .count;
+  curves = filled (λ k. getD (r .curves) k noCurve) 0 (r .count) (replicate greatestCurveCount noCurve);
+}

@@ -1,0 +1,54 @@
+-- Document 01, "Road file": reading and writing.
+use Prim.Native.Nat.{ℕ, _+_, _*_}
+use mathlib.Core.Bool.{Bool, not, _||_}
+use mathlib.Core.List.{List}
+use lib.Dec.{ltb, eqb}
+use lib.ListN.{length}
+use Rattle.terms.specs.Answers.{fault, unless, refuse, written}
+use Rattle.terms.specs.Limits.{greatestCurveCount}
+use Rattle.terms.specs.Refusals.{shortFileRefused, lettersRefused, versionRefused, curveCountRefused, totalRefused, roomRefused}
+use Rattle.terms.specs.declared.Answer.{Answer}
+use Rattle.terms.specs.declared.Answer.the-variants.{Number}
+use Rattle.terms.specs.declared.Verdict.{Verdict}
+use Rattle.terms.specs.declared.Verdict.the-variants.{Accepted, Fault}
+use Rattle.road.specs.declared.Road.{Road}
+use Rattle.road.specs.Road.{roadVerdict}
+use Rattle.file.specs.declared.ReadRoad.{ReadRoad}
+use Rattle.file.specs.File.{byteAt, u16At, roadIn, noRoad, fileBytes, version}
+
+-- the length of a file with n curves
+abbrev pub fileLength : ℕ → ℕ
+fileLength n = 16 + 6 * n
+
+-- byte k is not the letter
+abbrev pub differs : List ℕ → ℕ → ℕ → Bool
+differs s k letter = not (eqb (byteAt s k) letter)
+
+-- reading, in order: 1 fewer than 16 bytes, 2 wrong letters, 3 version not 1, 4 n over 32, 5 total length wrong, then 6 to 13
+-- of the road
+unfoldable pub readVerdict : List ℕ → Verdict
+readVerdict s =
+    fault (ltb (length s) (fileLength 0)) shortFileRefused
+    (fault (differs s 0 86 || differs s 1 67 || differs s 2 80) lettersRefused
+    (fault (not (eqb (u16At s 3) version)) versionRefused
+    (fault (ltb greatestCurveCount (byteAt s 15)) curveCountRefused
+    (fault (not (eqb (length s) (fileLength (byteAt s 15)))) totalRefused
+    (roadVerdict (roadIn s))))))
+
+abbrev given : Verdict → Road → Road
+given Accepted r = r
+given (Fault k) r = noRoad
+
+-- the verdict and beside it the file's road, all zero where it is refused
+unfoldable pub readRoad : List ℕ → ReadRoad
+readRoad s = record { verdict = readVerdict s; road = given (readVerdict s) (roadIn s) }
+
+-- writing: refused as the road is, then 14; else how many bytes are written
+unfoldable pub writeAnswer : Road → List ℕ → Answer
+writeAnswer r buffer =
+    unless (roadVerdict r)
+    (refuse (ltb (length buffer) (fileLength (r .count))) roomRefused (Number (fileLength (r .count))))
+
+-- the file's bytes from byte 0 on, bytes beyond stay; where it is refused all stay
+unfoldable pub writeList : Road → List ℕ → List ℕ
+writeList r buffer = written (byteAt (fileBytes r)) (writeAnswer r buffer) buffer

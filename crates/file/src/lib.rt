@@ -1,0 +1,295 @@
+// Document 01, "Road file": a road file read and written. All numbers little-endian, signed ones two's complement.
+ghost use mathlib.Core.Path.{_≡_};
+ghost use Prim.Native.Nat.{ℕ, _+_, _*_, _-_, _/_, _%_, _<_, _≤_};
+ghost use lib.ListN.{length, replicate};
+ghost use mir.Syntax.{w16, w32};
+ghost use mir.Val.{toZ, ofZ};
+ghost use Rattle.whole.specs.Fill.{filled};
+ghost use Rattle.terms.specs.Limits.{greatestCurveCount};
+ghost use Rattle.file.specs.File.{byteAt, u16At, u32At, noCurve, noRoad, curveAt, roadIn, headerBytes, curveBytes, fileBytes};
+ghost use Rattle.file.specs.Operations.{fileLength, readRoad, writeAnswer, writeList};
+use road::Curve;
+use road::Road;
+use terms::Answer;
+use terms::Verdict;
+
+// What reading answers, and beside it the road: all zero where the file is refused.
+pub struct ReadRoad {
+    pub verdict: Verdict,
+    pub road: Road,
+}
+
+// ---- places in a file
+const VERSION_AT: usize = 3;
+
+const SPEED_AT: usize = 5;
+
+const PURPOSE_AT: usize = 6;
+
+const LENGTH_AT: usize = 7;
+
+const START_HEIGHT_AT: usize = 9;
+
+const FIRST_GRADE_AT: usize = 13;
+
+const COUNT_AT: usize = 15;
+
+const HEADER_BYTES: usize = 16;
+
+const CURVE_BYTES: usize = 6;
+
+const VERSION: u16 = 1;
+
+// ---- numbers in a file
+fn wide(byte: u8) -> u16
+    ensures { λ r. ⌜ (r ≡ byte) × (r < 256) ⌝ }
+{
+    byte as u16
+}
+
+fn u16_at(file: &[u8], at: usize) -> u16
+    requires { ⌜ at + 1 < length (now file) ⌝ }
+    ensures { λ r. ⌜ r ≡ u16At (now (file .entry)) at ⌝ }
+{
+    wide(file[at]) + 256 * wide(file[at + 1])
+}
+
+fn u32_at(file: &[u8], at: usize) -> u32
+    requires { ⌜ at + 3 < length (now file) ⌝ }
+    ensures { λ r. ⌜ r ≡ u32At (now (file .entry)) at ⌝ }
+{
+    (u16_at(file, at) as u32) + 65536 * (u16_at(file, at + 2) as u32)
+}
+
+// The number whose bits these are. No cast wraps: in the upper half the bits turned over are a natural, and -1 less it is
+// the number.
+fn signed16(bits: u16) -> i16
+    ensures { λ r. ⌜ r ≡ toZ w16 bits ⌝ }
+{
+    if bits < 32768 {
+        return bits as i16;
+    }
+    -1 - ((65535 - bits) as i16)
+}
+
+fn signed32(bits: u32) -> i32
+    ensures { λ r. ⌜ r ≡ toZ w32 bits ⌝ }
+{
+    if bits < 2147483648 {
+        return bits as i32;
+    }
+    -1 - ((4294967295 - bits) as i32)
+}
+
+// Record k: PVI, length, grade out.
+fn curve_at(file: &[u8], k: usize) -> Curve
+    requires { ⌜ fileLength (k + 1) ≤ length (now file) ⌝ }
+    ensures { λ r. ⌜ r ≡ curveAt (now (file .entry)) k ⌝ }
+{
+    let at = HEADER_BYTES + CURVE_BYTES * k;
+    Curve {
+        pvi: u16_at(file, at) as u32,
+        length: u16_at(file, at + 2),
+        grade_out: signed16(u16_at(file, at + 4)),
+    }
+}
+
+const NO_CURVE: Curve = Curve {
+    pvi: 0,
+    length: 0,
+    grade_out: 0,
+};
+
+// Records 0 to n - 1, and zero in the other curve places.
+fn curves_in(file: &[u8], n: usize) -> [Curve; 32]
+    requires { ⌜ (n ≤ greatestCurveCount) × (fileLength n ≤ length (now file)) ⌝ }
+    ensures { λ r. ⌜ r ≡ filled (curveAt (now (file .entry))) 0 n (replicate greatestCurveCount noCurve) ⌝ }
+{
+    let mut curves = [NO_CURVE; 32];
+    for k in 0..n {
+        curves[k] = curve_at(file, k);
+    }
+    curves
+}
+
+// The road in a file whose length is that of its number of curves.
+fn road_in(file: &[u8]) -> Road
+    requires { ⌜ (byteAt (now file) 15 ≤ greatestCurveCount) × (length (now file) ≡ fileLength (byteAt (now file) 15)) ⌝ }
+    ensures { λ r. ⌜ r ≡ roadIn (now (file .entry)) ⌝ }
+{
+    let curves = curves_in(file, file[COUNT_AT] as usize);
+    Road {
+        speed: file[SPEED_AT],
+        purpose: file[PURPOSE_AT],
+        length: u16_at(file, LENGTH_AT) as u32,
+        start_height: signed32(u32_at(file, START_HEIGHT_AT)),
+        first_grade: signed16(u16_at(file, FIRST_GRADE_AT)),
+        count: file[COUNT_AT],
+        curves,
+    }
+}
+
+const NO_ROAD: Road = Road {
+    speed: 0,
+    purpose: 0,
+    length: 0,
+    start_height: 0,
+    first_grade: 0,
+    count: 0,
+    curves: [NO_CURVE; 32],
+};
+
+// What reading answers to a file that is refused.
+fn refused(number: u8) -> ReadRoad
+    ensures { λ r. ⌜ r ≡ record { verdict = Verdict.Fault number; road = noRoad } ⌝ }
+{
+    ReadRoad {
+        verdict: Verdict::Fault(number),
+        road: NO_ROAD,
+    }
+}
+
+// Reads a road file. Refused by 1 to 5 as its header is, then by 6 to 13 as its road is.
+pub fn read(file: &[u8]) -> ReadRoad
+    ensures { λ r. ⌜ r ≡ readRoad (now (file .entry)) ⌝ }
+{
+    if file.len() < HEADER_BYTES {
+        return refused(terms::SHORT_FILE_REFUSED);
+    }
+    if (file[0] != b'V') | (file[1] != b'C') | (file[2] != b'P') {
+        return refused(terms::LETTERS_REFUSED);
+    }
+    if u16_at(file, VERSION_AT) != VERSION {
+        return refused(terms::VERSION_REFUSED);
+    }
+    let count = file[COUNT_AT];
+    if terms::GREATEST_CURVE_COUNT < count {
+        return refused(terms::CURVE_COUNT_REFUSED);
+    }
+    if file.len() != HEADER_BYTES + CURVE_BYTES * (count as usize) {
+        return refused(terms::TOTAL_REFUSED);
+    }
+    let road = road_in(file);
+    let verdict = road::verdict(road);
+    match verdict {
+        Verdict::Fault(number) => refused(number),
+        Verdict::Accepted => ReadRoad { verdict, road },
+    }
+}
+
+// ---- the bytes of a road
+// The bits of a number, the other way round.
+fn bits16(number: i16) -> u16
+    ensures { λ r. ⌜ r ≡ ofZ w16 number ⌝ }
+{
+    if number < 0 {
+        return 65535 - ((-1 - number) as u16);
+    }
+    number as u16
+}
+
+fn bits32(number: i32) -> u32
+    ensures { λ r. ⌜ r ≡ ofZ w32 number ⌝ }
+{
+    if number < 0 {
+        return 4294967295 - ((-1 - number) as u32);
+    }
+    number as u32
+}
+
+// The lowest byte of a number, and the one above it.
+fn low(number: u32) -> u8
+    ensures { λ r. ⌜ r ≡ number % 256 ⌝ }
+{
+    (number % 256) as u8
+}
+
+fn high(number: u32) -> u8
+    ensures { λ r. ⌜ r ≡ number / 256 % 256 ⌝ }
+{
+    (number / 256 % 256) as u8
+}
+
+fn header_bytes(road: Road) -> [u8; 16]
+    ensures { λ r. ⌜ r ≡ headerBytes road ⌝ }
+{
+    let start = bits32(road.start_height);
+    let grade = bits16(road.first_grade) as u32;
+    [
+        b'V',
+        b'C',
+        b'P',
+        low(VERSION as u32),
+        high(VERSION as u32),
+        road.speed,
+        road.purpose,
+        low(road.length),
+        high(road.length),
+        low(start),
+        high(start),
+        low(start / 65536),
+        high(start / 65536),
+        low(grade),
+        high(grade),
+        road.count,
+    ]
+}
+
+fn curve_bytes(curve: Curve) -> [u8; 6]
+    ensures { λ r. ⌜ r ≡ curveBytes curve ⌝ }
+{
+    let length = curve.length as u32;
+    let grade = bits16(curve.grade_out) as u32;
+    [
+        low(curve.pvi),
+        high(curve.pvi),
+        low(length),
+        high(length),
+        low(grade),
+        high(grade),
+    ]
+}
+
+// Stores bytes in a row, the first at place `at`.
+fn put(buffer: &mut [u8], at: usize, bytes: &[u8])
+    requires { ⌜ at + length (now bytes) ≤ length (now buffer) ⌝ }
+    ensures { λ _. ⌜ now (buffer .exit) ≡ filled (λ (k : ℕ). byteAt (now (bytes .entry)) (k - at)) at (length (now (bytes .entry))) (now (buffer .entry)) ⌝ }
+{
+    for k in 0..bytes.len() {
+        buffer[at + k] = bytes[k];
+    }
+}
+
+// Stores the file of a road at the front of a buffer that has room for it.
+fn put_file(buffer: &mut [u8], road: Road)
+    requires { ⌜ (road .count ≤ greatestCurveCount) × (fileLength (road .count) ≤ length (now buffer)) ⌝ }
+    ensures { λ _. ⌜ now (buffer .exit) ≡ filled (byteAt (fileBytes road)) 0 (fileLength (road .count)) (now (buffer .entry)) ⌝ }
+{
+    let header = header_bytes(road);
+    put(buffer, 0, &header);
+    for k in 0..road.count as usize {
+        let curve = road.curves[k];
+        let bytes = curve_bytes(curve);
+        put(buffer, HEADER_BYTES + CURVE_BYTES * k, &bytes);
+    }
+}
+
+// Writes a road's file at the front of a buffer, and answers how many bytes that is. Refused by 4 and 6 to 13 as the road
+// is, then by 14; the buffer is then as it was.
+pub fn write(road: Road, buffer: &mut [u8]) -> Answer
+    ensures answer { λ r. ⌜ r ≡ writeAnswer road (now (buffer .entry)) ⌝ }
+    ensures bytes { λ _. ⌜ now (buffer .exit) ≡ writeList road (now (buffer .entry)) ⌝ }
+{
+    let verdict = road::verdict(road);
+    match verdict {
+        Verdict::Fault(number) => Answer::Refused(number),
+        Verdict::Accepted => {
+            let total = HEADER_BYTES + CURVE_BYTES * (road.count as usize);
+            if buffer.len() < total {
+                return Answer::Refused(terms::ROOM_REFUSED);
+            }
+            put_file(buffer, road);
+            Answer::Number(total as u32)
+        }
+    }
+}
