@@ -1,0 +1,41 @@
+-- What the test `seen` tells: the inequality of document 01 at every station strictly between.
+use mathlib.Core.Path.{_≡_}
+use mathlib.Core.Bool.{Bool}
+use mathlib.Core.Logic.{⊎-elim}
+use Prim.Native.Nat.{ℕ, zero, suc, _+_, _-_, _<_}
+use native.Mathlib.Nat.{eq-or-lt-of-le, le-of-suc-le-suc}
+use native.Mathlib.Omega.{arith}
+use lib.Dec.{T}
+use lib.IntN.{ℤ, pos, _+ℤ_, _*ℤ_}
+use lib.Signed.{_≤ℤ_, leZ-yes}
+use mir.Facts.{and-yes, yes-and}
+use Rattle.sight.specs.Sight.{clears, every, seen}
+
+-- ---- every
+pub every-at : (p : ℕ → Bool) (n : ℕ) → T (every p n) → (d : ℕ) → d < n → T (p d)
+unfolding every
+every-at p zero t d l = absurd (omega arith)
+every-at p (suc n) t d l =
+    let w = and-yes (p n) (every p n) t in
+    ⊎-elim (λ q. rw q (w .0)) (λ q. every-at p n (w .1) d q) (eq-or-lt-of-le {n = d} {m = n} (le-of-suc-le-suc l))
+
+pub every-by : (p : ℕ → Bool) (n : ℕ) → ((d : ℕ) → d < n → T (p d)) → T (every p n)
+unfolding every
+every-by p zero f = tt
+every-by p (suc n) f = yes-and (p n) (every p n) (f n (omega arith)) (every-by p n (λ d l. f d (omega arith)))
+
+-- ---- seen
+abbrev pub Seen : (ℕ → ℤ) → ℕ → ℕ → ℕ → ℕ → Type 0
+Seen h e o i j = (k : ℕ) → i < k → k < j →
+    (h k *ℤ pos (j - i)) ≤ℤ ((h i +ℤ pos e) *ℤ pos (j - k) +ℤ (h j +ℤ pos o) *ℤ pos (k - i))
+
+module _ (h : ℕ → ℤ) (e o i j : ℕ) where
+  pub seen-to : T (seen h e o i j) → Seen h e o i j
+  unfolding seen clears
+  seen-to t k l r =
+      let q : i + 1 + (k - (i + 1)) ≡ k = omega arith in
+      leZ-yes (rw q at (every-at (λ d. clears h e o i j (i + 1 + d)) (j - (i + 1)) t (k - (i + 1)) (omega arith)))
+
+  pub seen-by : Seen h e o i j → T (seen h e o i j)
+  unfolding seen clears
+  seen-by s = every-by (λ d. clears h e o i j (i + 1 + d)) (j - (i + 1)) (λ d l. s (i + 1 + d) (omega arith) (omega arith) .le)

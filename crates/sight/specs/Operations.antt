@@ -1,0 +1,34 @@
+-- Document 01, "Sight from one station" and "Sight profile": the answers, and what the lent list holds at the end.
+use Prim.Native.Nat.{ℕ}
+use mathlib.Core.List.{List}
+use lib.Dec.{ltb, leb}
+use lib.IntN.{ℤ}
+use lib.ListN.{length}
+use Rattle.terms.specs.Answers.{outside, listOutside, heightsOutside, refuse, written}
+use Rattle.terms.specs.Limits.{greatestFarthest}
+use Rattle.terms.specs.Refusals.{listRefused, stationRefused, heightRefused, farthestRefused, roomRefused}
+use Rattle.terms.specs.declared.Answer.{Answer}
+use Rattle.terms.specs.declared.Answer.the-variants.{Number}
+use Rattle.sight.specs.Sight.{availableSight}
+
+-- sight from one station: refused 19, 20, 17, 21
+unfoldable pub sightAnswer : List ℤ → ℕ → ℕ → ℕ → ℕ → Answer
+sightAnswer list i e o far =
+    refuse (listOutside (length list)) listRefused
+    (refuse (leb (length list) i) stationRefused
+    (refuse (heightsOutside e o) heightRefused
+    (refuse (outside 1 greatestFarthest far) farthestRefused
+    (Number (availableSight list i e o far)))))
+
+-- the sight profile: refused 19, 17, 21, 14; else how many places are written, one for each station
+unfoldable pub profileAnswer : List ℤ → ℕ → ℕ → ℕ → List ℕ → Answer
+profileAnswer list e o far sights =
+    refuse (listOutside (length list)) listRefused
+    (refuse (heightsOutside e o) heightRefused
+    (refuse (outside 1 greatestFarthest far) farthestRefused
+    (refuse (ltb (length sights) (length list)) roomRefused
+    (Number (length list)))))
+
+-- each station's place holds its own sight, later places stay; where it is refused all stay
+unfoldable pub profileList : List ℤ → ℕ → ℕ → ℕ → List ℕ → List ℕ
+profileList list e o far sights = written (λ i. availableSight list i e o far) (profileAnswer list e o far sights) sights
