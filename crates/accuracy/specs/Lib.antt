@@ -1,0 +1,2 @@
+pub mod ExactSight
+pub mod Accuracy
