@@ -1,0 +1,68 @@
+-- `mark_of` meets its contract. Where a distance is judged, the sight was searched for up to the larger of the two, and
+-- `mark-by-sight` says that it makes the mark.
+use mathlib.Core.Path.{_≡_, ap, _∙_}
+use mathlib.Core.Bool.{_||_}
+use mathlib.Core.Logic.{⊎-elim}
+use Prim.Native.Nat.{_≤_}
+use native.Mathlib.Omega.{arith}
+use borrow.Author.Needs.{needs}
+use lib.Dec.{T}
+use Rattle.terms.specs.Limits.{greatestFarthest, eyeHeight, objectHeight}
+use Rattle.sight.specs.Sight.{availableSight}
+use Rattle.marks.specs.Marks.{judged, metres}
+use Rattle.marks.proofs.Mark.{mark-by-sight, sight-metres}
+use Rattle.marks.proofs.mark_of.Statement.{statement}
+use Rattle.marks.proofs.mark_of.Tie as tie
+
+sub-last : tie.Need-sub-last
+sub-last c = search needs
+
+add-stop : tie.Need-add-stop
+add-stop c = search needs
+
+add-decide : tie.Need-add-decide
+add-decide c = search needs
+
+cast-sight : tie.Need-cast-sight
+cast-sight c = search needs
+
+sight-requires : tie.Need-sight-requires
+sight-requires c κs = search needs
+
+metres-of-requires : tie.Need-metres-of-requires
+metres-of-requires c κs = search needs
+
+compose-requires : tie.Need-compose-requires
+compose-requires c κs = search needs
+
+larger-is : (c : tie.Joined1) → let a = c .before .args in
+    (a .stopping ≤ c .if1 .larger) × (a .decision ≤ c .if1 .larger) × (c .if1 .larger ≤ greatestFarthest)
+larger-is c = ⊎-elim (λ w. omega arith) (λ w. omega arith) (c .if1 .came)
+
+searched : (c : tie.Joined2) → let a = c .before .before .args in
+    T (judged (a .heights .now) (a .stopping) (a .i) || judged (a .heights .now) (a .decision) (a .i)) →
+    c .if2 .s ≡ availableSight (a .heights .now) (a .i) eyeHeight objectHeight (c .before .if1 .larger)
+searched c t =
+    let b = c .before .before in let far = larger-is (c .before) .2 in
+    ⊎-elim
+    (λ w. w .3 ∙ w .2 .ensures ∙ ap metres (w .1 .ensures) ∙ sight-metres _ _ _ (b .pre .0 .0) (b .pre .0 .1) far)
+    (λ w. absurd (rw (w .0 .left) at t))
+    (c .if2 .came)
+
+returns : tie.Need-returns
+returns c =
+    let far = larger-is (c .before .before) in
+    c .compose .ensures ∙ mark-by-sight _ _ _ _ _ (c .before .if2 .s) (far .0) (far .1) (searched (c .before))
+
+pub mark-of-spec : {M : Type 1} → statement M
+mark-of-spec =
+    tie.close
+    (tie.spec
+    sub-last
+    add-stop
+    add-decide
+    cast-sight
+    sight-requires
+    metres-of-requires
+    compose-requires
+    returns)

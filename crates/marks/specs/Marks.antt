@@ -1,0 +1,65 @@
+-- Document 01, "Marks and zones": a station's mark, and the marks of heights.
+use Prim.Native.Nat.{ℕ, _+_, _-_, _^_}
+use mathlib.Core.Bool.{Bool, not, cond, _&&_}
+use mathlib.Core.List.{List}
+use lib.Dec.{ltb, leb}
+use lib.IntN.{ℤ}
+use lib.ListN.{length}
+use Rattle.terms.specs.Answers.{outside, listOutside, refuse, written}
+use Rattle.terms.specs.Limits.{leastSpeed, greatestSpeed, firstDecision, lastPurpose, eyeHeight, objectHeight}
+use Rattle.terms.specs.Refusals.{speedRefused, purposeRefused, listRefused, roomRefused}
+use Rattle.terms.specs.declared.Answer.{Answer}
+use Rattle.terms.specs.declared.Answer.the-variants.{Number, Refused}
+use Rattle.distance.specs.Distance.{requiredDistance}
+use Rattle.sight.specs.Sight.{availableSight}
+
+-- station i is judged for a required distance R: i + R is at most the last station
+abbrev pub judged : List ℤ → ℕ → ℕ → Bool
+judged heights R i = leb (i + R) (length heights - 1)
+
+-- sight is below R, with R itself as the farthest distance
+abbrev pub lacking : List ℤ → ℕ → ℕ → Bool
+lacking heights R i = ltb (availableSight heights i eyeHeight objectHeight R) R
+
+-- a mark with this one bit, where the test holds
+abbrev pub bit : ℕ → Bool → ℕ
+bit b test = cond test (2 ^ b) 0
+
+-- the mark of station i for a stopping distance and a decision distance. Bit 0 (S): stopping judged and lacking. Bit 1 (D):
+-- decision judged and lacking. Bit 2 (R): decision judged and lacking while stopping is judged and there. Bit 3 (s): stopping
+-- not judged. Bit 4 (d): decision not judged
+unfoldable pub markOf : List ℤ → ℕ → ℕ → ℕ → ℕ
+markOf heights stopping decision i =
+    let stop = judged heights stopping i in
+    let decide = judged heights decision i in
+    let stopLacking = lacking heights stopping i in
+    let decideLacking = lacking heights decision i in
+    bit 0 (stop && stopLacking)
+    + bit 1 (decide && decideLacking)
+    + bit 2 (decide && decideLacking && (stop && not stopLacking))
+    + bit 3 (not stop)
+    + bit 4 (not decide)
+
+-- the metres of a required distance
+abbrev pub metres : Answer → ℕ
+metres (Number n) = n
+metres (Refused k) = 0
+
+-- the mark of station i for a speed and a purpose
+abbrev pub markFor : ℕ → ℕ → List ℤ → ℕ → ℕ
+markFor speed purpose heights i =
+    markOf heights (metres (requiredDistance speed 0)) (metres (requiredDistance speed purpose)) i
+
+-- marks from a speed, a decision purpose and heights: refused 6, 7, 19, 14; else how many bytes are written
+unfoldable pub marksAnswer : ℕ → ℕ → List ℤ → List ℕ → Answer
+marksAnswer speed purpose heights marks =
+    refuse (outside leastSpeed greatestSpeed speed) speedRefused
+    (refuse (outside firstDecision lastPurpose purpose) purposeRefused
+    (refuse (listOutside (length heights)) listRefused
+    (refuse (ltb (length marks) (length heights)) roomRefused
+    (Number (length heights)))))
+
+-- each station's byte is its mark, bytes beyond stay; where it is refused all stay
+unfoldable pub marksList : ℕ → ℕ → List ℤ → List ℕ → List ℕ
+marksList speed purpose heights marks =
+    written (markFor speed purpose heights) (marksAnswer speed purpose heights marks) marks

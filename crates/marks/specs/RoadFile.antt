@@ -1,0 +1,31 @@
+-- Document 01, "Marks and zones": marking a road file.
+use Prim.Native.Nat.{ℕ, _+_}
+use mathlib.Core.List.{List}
+use lib.Dec.{ltb}
+use lib.IntN.{ℤ, pos}
+use lib.ListN.{length, replicate}
+use Rattle.whole.specs.Fill.{filled}
+use Rattle.terms.specs.Answers.{unless, refuse, written}
+use Rattle.terms.specs.Refusals.{roomRefused}
+use Rattle.terms.specs.declared.Answer.{Answer}
+use Rattle.terms.specs.declared.Answer.the-variants.{Number}
+use Rattle.road.specs.declared.Road.{Road}
+use Rattle.road.specs.Profile.{storedHeight}
+use Rattle.file.specs.File.{roadIn}
+use Rattle.file.specs.Operations.{readVerdict}
+use Rattle.marks.specs.Marks.{markFor}
+
+-- a road's own heights: a list of just the N + 1 stored ones
+unfoldable pub ownHeights : Road → List ℤ
+ownHeights r = filled (storedHeight r) 0 (r .length + 1) (replicate (r .length + 1) (pos 0))
+
+-- refused as reading is, then 14; else the number of stations, N + 1
+unfoldable pub markFileAnswer : List ℕ → List ℕ → Answer
+markFileAnswer file marks =
+    unless (readVerdict file)
+    (let stations = roadIn file .length + 1 in refuse (ltb (length marks) stations) roomRefused (Number stations))
+
+-- the marks of its road's heights for its own speed and purpose, bytes beyond stay; where it is refused all stay
+unfoldable pub markFileList : List ℕ → List ℕ → List ℕ
+markFileList file marks =
+    let r = roadIn file in written (markFor (r .speed) (r .purpose) (ownHeights r)) (markFileAnswer file marks) marks
