@@ -1,0 +1,100 @@
+// Document 01, "Marks and zones": the zones of a bit.
+ghost use mathlib.Core.Path.{_≡_};
+ghost use mathlib.Core.Bool.{cond};
+ghost use Prim.Native.Nat.{_+_, _*_, _≤_, _<_};
+ghost use lib.ListN.{length, set};
+ghost use Rattle.terms.specs.Limits.{lastBit, greatestList};
+ghost use Rattle.terms.specs.declared.Answer.the-variants.{Number};
+ghost use Rattle.zones.specs.Zones.{hasBit, beginsAt, endsAt, zoneEnds, zoneCount, pairsWritten, zonesAnswer, zonesList};
+use terms::Answer;
+
+// Whether the mark of station `i` has the bit. Beyond the last station there is none.
+fn has_bit(marks: &[u8], bit: u32, i: usize) -> bool
+    requires { ⌜ bit ≤ lastBit ⌝ }
+    ensures { λ r. ⌜ r ≡ hasBit (now (marks .entry)) bit i ⌝ }
+{
+    if i < marks.len() {
+        return (marks[i] >> bit) & 1 == 1;
+    }
+    false
+}
+
+// Whether a zone begins at station `i`.
+fn begins_at(marks: &[u8], bit: u32, i: usize) -> bool
+    requires { ⌜ bit ≤ lastBit ⌝ }
+    ensures { λ r. ⌜ r ≡ beginsAt (now (marks .entry)) bit i ⌝ }
+{
+    if i == 0 {
+        return has_bit(marks, bit, i);
+    }
+    has_bit(marks, bit, i) & !has_bit(marks, bit, i - 1)
+}
+
+// Whether a zone ends at station `i`.
+fn ends_at(marks: &[u8], bit: u32, i: usize) -> bool
+    requires { ⌜ (bit ≤ lastBit) × (i < length (now marks)) ⌝ }
+    ensures { λ r. ⌜ r ≡ endsAt (now (marks .entry)) bit i ⌝ }
+{
+    has_bit(marks, bit, i) & !has_bit(marks, bit, i + 1)
+}
+
+// How many zones there are.
+fn count_zones(marks: &[u8], bit: u32) -> usize
+    requires { ⌜ bit ≤ lastBit ⌝ }
+    ensures { λ r. ⌜ r ≡ zoneCount (now (marks .entry)) bit (length (now (marks .entry))) ⌝ }
+{
+    let mut count: usize = 0;
+    for i in 0..marks.len() {
+        if begins_at(marks, bit, i) {
+            count += 1;
+        }
+    }
+    count
+}
+
+// Stores a station at the place `at` where the test holds. The answer is the next place.
+fn put_if(test: bool, station: u16, list: &mut [u16], at: usize) -> usize
+    requires { ⌜ at + cond test 1 0 ≤ length (now list) ⌝ }
+    ensures { λ r. ⌜ (r ≡ at + cond test 1 0) × (now (list .exit) ≡ cond test (set (now (list .entry)) at station) (now (list .entry))) ⌝ }
+{
+    if test {
+        list[at] = station;
+        return at + 1;
+    }
+    at
+}
+
+// Writes the first and the last station of each zone, from place 0 on.
+fn write_zones(marks: &[u8], bit: u32, list: &mut [u16])
+    requires { ⌜ (bit ≤ lastBit) × (length (now marks) ≤ greatestList) × (2 * zoneCount (now marks) bit (length (now marks)) ≤ length (now list)) ⌝ }
+    ensures { λ _. ⌜ now (list .exit) ≡ pairsWritten (zoneEnds (now (marks .entry)) bit (length (now (marks .entry)))) (Number (zoneCount (now (marks .entry)) bit (length (now (marks .entry))))) (now (list .entry)) ⌝ }
+{
+    let mut at: usize = 0;
+    for i in 0..marks.len() {
+        let station = i as u16;
+        at = put_if(begins_at(marks, bit, i), station, list, at);
+        at = put_if(ends_at(marks, bit, i), station, list, at);
+    }
+}
+
+// The zones of a bit: the first and the last station of each, in pairs, ascending, into `list`. The answer is their number.
+pub fn zones(marks: &[u8], bit: u32, list: &mut [u16]) -> Answer
+    ensures answer { λ r. ⌜ r ≡ zonesAnswer (now (marks .entry)) bit (now (list .entry)) ⌝ }
+    ensures written { λ _. ⌜ now (list .exit) ≡ zonesList (now (marks .entry)) bit (now (list .entry)) ⌝ }
+{
+    if terms::LAST_BIT < bit {
+        return Answer::Refused(terms::BIT_REFUSED);
+    }
+    if marks.len() < 1 {
+        return Answer::Refused(terms::LIST_REFUSED);
+    }
+    if terms::GREATEST_LIST < marks.len() {
+        return Answer::Refused(terms::LIST_REFUSED);
+    }
+    let count = count_zones(marks, bit);
+    if list.len() < 2 * count {
+        return Answer::Refused(terms::ZONE_ROOM_REFUSED);
+    }
+    write_zones(marks, bit, list);
+    Answer::Number(count as u32)
+}
