@@ -1,0 +1,17 @@
+// The road lister, document 01: reads a road file on standard input and prints its listing.
+use libc::STDIN_FILENO;
+use libc::STDOUT_FILENO;
+use terms::Answer;
+
+// One byte more than the longest road file has: a longer file keeps a wrong length.
+const FILE_BYTES: usize = 209;
+
+fn main() {
+    let mut bytes = [0u8; FILE_BYTES];
+    let n = io::read_full(STDIN_FILENO, &mut bytes);
+    let mut text = [0u8; terms::GREATEST_LISTING];
+    if let Answer::Number(length) = listing::list_road(&bytes[..n], &mut text) {
+        let end = length as usize;
+        io::write_all(STDOUT_FILENO, &text[..end]);
+    }
+}

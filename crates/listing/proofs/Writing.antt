@@ -1,0 +1,126 @@
+-- Laws of writing: texts written one behind the other are their join, and there is room for each where there is room for the
+-- join.
+use mathlib.Core.Path.{_≡_, refl, ap, _∙_}
+use mathlib.Core.List.{List, [], _∷_, _++_}
+use mathlib.Core.Logic.{⊎-elim}
+use Prim.Native.Nat.{ℕ, zero, suc, _+_, _*_, _-_, _≤_, _<_}
+use native.Mathlib.Nat.{eq-or-lt-of-le}
+use native.Mathlib.Numerals.{add-one}
+use native.Mathlib.Omega.{arith}
+use lib.ListN.{length, getD, set, take, length-append, length-set}
+use lib.Seq.{take-suc, take-length}
+use Rattle.whole.specs.Fill.{filled}
+use Rattle.whole.proofs.Fill.{filled-cong, filled-join}
+use Rattle.listing.specs.Listing.{joined}
+use Rattle.listing.specs.Writing.{placed, Room, Wrote}
+
+-- ---- the placed bytes
+pub placed-length : (bytes : List ℕ) (at : ℕ) (xs : List ℕ) → length (placed bytes at xs) ≡ length xs
+unfolding placed
+placed-length [] at xs = refl
+placed-length (b ∷ bytes) at xs = placed-length bytes (at + 1) (set xs at b) ∙ length-set xs at b
+
+placed-join : (a b : List ℕ) (at : ℕ) (xs : List ℕ) → placed (a ++ b) at xs ≡ placed b (at + length a) (placed a at xs)
+unfolding placed
+placed-join [] b at xs = let z : at + 0 ≡ at = omega arith in rw z refl
+placed-join (x ∷ a) b at xs =
+    let s : at + suc (length a) ≡ at + 1 + length a = omega arith in
+    rw (placed-join a b (at + 1) (set xs at x), s) refl
+
+-- each place holds the byte of its index
+placed-filled : (bytes : List ℕ) (at : ℕ) (xs : List ℕ) →
+    placed bytes at xs ≡ filled (λ k. getD bytes (k - at) 0) at (length bytes) xs
+unfolding placed filled
+placed-filled [] at xs = refl
+placed-filled (b ∷ bytes) at xs =
+    let f : ℕ → ℕ = λ k. getD (b ∷ bytes) (k - at) 0 in
+    let z : at + 0 ≡ at = omega arith in
+    let d : at - at ≡ 0 = omega arith in
+    let s : 1 + length bytes ≡ suc (length bytes) = omega arith in
+    let here : filled f at 1 xs ≡ set xs at b = rw (z, d) refl in
+    placed-filled bytes (at + 1) (set xs at b)
+    ∙ filled-cong (λ k. getD bytes (k - (at + 1)) 0) f (at + 1) (length bytes) (set xs at b)
+    (λ k l r. let e : k - at ≡ suc (k - (at + 1)) = omega arith in rw e refl)
+    ∙ (rw (here, s) at (filled-join f at 1 (length bytes) xs))
+
+-- ---- writing
+pub wrote-none : (at : ℕ) (xs : List ℕ) → Wrote [] at at xs xs
+unfolding placed
+wrote-none at xs = record { behind = omega arith; text = refl }
+
+pub wrote-byte : (b at : ℕ) (xs : List ℕ) → Wrote (b ∷ []) at (at + 1) xs (set xs at b)
+unfolding placed
+wrote-byte b at xs = record { behind = refl; text = refl }
+
+pub wrote-join : {a b : List ℕ} {at m n : ℕ} {xs ys zs : List ℕ} → Wrote a at m xs ys → Wrote b m n ys zs →
+    Wrote (a ++ b) at n xs zs
+wrote-join {a} {b} {at} {xs} p q = record {
+  behind = simp length-append (omega arith);
+  text = q .text ∙ rw (placed-join a b at xs, p .behind, p .text) refl;
+}
+
+-- the whole text from place 0 on
+pub wrote-filled : {bytes : List ℕ} {n : ℕ} {xs ys : List ℕ} → Wrote bytes 0 n xs ys →
+    ys ≡ filled (λ k. getD bytes k 0) 0 (length bytes) xs
+wrote-filled {bytes} {xs} p =
+    p .text ∙ placed-filled bytes 0 xs
+    ∙ filled-cong (λ k. getD bytes (k - 0) 0) (λ k. getD bytes k 0) 0 (length bytes) xs
+    (λ k l r. let e : k - 0 ≡ k = omega arith in rw e refl)
+
+pub wrote-length : {bytes : List ℕ} {at n : ℕ} {xs ys : List ℕ} → Wrote bytes at n xs ys → length ys ≡ length xs
+wrote-length {bytes} {at} {xs} p = ap length (p .text) ∙ placed-length bytes at xs
+
+-- ---- room
+pub room-first : (a b : List ℕ) {at : ℕ} {xs : List ℕ} → Room (a ++ b) at xs → Room a at xs
+room-first a b r = record { fits = omega (arith, simp length-append at (r .fits)) }
+
+pub room-next : (b : List ℕ) {a : List ℕ} {at m : ℕ} {xs ys : List ℕ} → Room (a ++ b) at xs → Wrote a at m xs ys → Room b m ys
+room-next b r p = record { fits = omega (arith, simp length-append at (r .fits), wrote-length p) }
+
+-- ---- a loop that writes f 0, f 1, … in turn: its start, a turn, its end
+module _ (f : ℕ → List ℕ) where
+  joined-more : (n : ℕ) → joined f (n + 1) ≡ joined f n ++ f n
+  unfolding joined
+  joined-more n = rw add-one refl
+
+  joined-mono : (n m : ℕ) → n ≤ m → length (joined f n) ≤ length (joined f m)
+  unfolding joined
+  joined-mono zero zero h = omega arith
+  joined-mono (suc n) zero h = absurd (omega arith)
+  joined-mono n (suc m) h =
+      ⊎-elim
+      (λ e. rw e (omega arith))
+      (λ s. simp length-append (omega (arith, joined-mono n m (omega arith))))
+      (eq-or-lt-of-le h)
+
+  pub wrote-zero : (at : ℕ) (xs : List ℕ) → Wrote (joined f 0) at at xs xs
+  unfolding joined
+  wrote-zero at xs = wrote-none at xs
+
+  pub room-turn : {n k at m : ℕ} {xs ys : List ℕ} → Room (joined f n) at xs → k < n → Wrote (joined f k) at m xs ys → Room (f k) m ys
+  room-turn {n} {k} {at} {xs} r h p =
+      let first : Room (joined f (k + 1)) at xs = record { fits = omega (arith, joined-mono (k + 1) n (omega arith)) } in
+      room-next (f k) (rw joined-more at first) p
+
+  pub wrote-turn : {k at m n : ℕ} {xs ys zs : List ℕ} → Wrote (joined f k) at m xs ys → Wrote (f k) m n ys zs →
+      Wrote (joined f (k + 1)) at n xs zs
+  wrote-turn {k} p q = rw joined-more (wrote-join p q)
+
+  pub joined-at-most : (m n : ℕ) → ((k : ℕ) → length (f k) ≤ m) → length (joined f n) ≤ m * n
+  unfolding joined
+  joined-at-most m zero h = omega arith
+  joined-at-most m (suc n) h = simp length-append (omega (arith, h n, joined-at-most m n h))
+
+pub joined-cong : (f g : ℕ → List ℕ) (n : ℕ) → ((k : ℕ) → k < n → f k ≡ g k) → joined f n ≡ joined g n
+unfolding joined
+joined-cong f g zero h = refl
+joined-cong f g (suc n) h = rw (joined-cong f g n (λ k l. h k (omega arith)), h n (omega arith)) refl
+
+-- a word is its bytes, one behind the other
+pub joined-bytes : (word : List ℕ) → joined (λ k. getD word k 0 ∷ []) (length word) ≡ word
+unfolding joined
+joined-bytes word = first (length word) (omega arith) ∙ take-length word
+  where
+    first : (n : ℕ) → n ≤ length word → joined (λ k. getD word k 0 ∷ []) n ≡ take n word
+    first zero h = refl
+    first (suc n) h = rw (first n (omega arith), take-suc word n 0) refl

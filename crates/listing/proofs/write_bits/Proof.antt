@@ -1,0 +1,61 @@
+-- `write_bits` meets its contract. The loop's invariant: the zones of the bits below `bit` were written. The measure is what is
+-- left of the bits.
+use Prim.Native.Nat.{_≤_, _+_, _-_}
+use mathlib.Core.Path.{_≡_}
+use borrow.Author.Needs.{needs}
+use native.Mathlib.Omega.{arith}
+use Rattle.terms.specs.Limits.{lastBit}
+use Rattle.listing.specs.Listing.{joined, bitLines}
+use Rattle.listing.specs.Writing.{Wrote}
+use Rattle.listing.proofs.Writing.{wrote-zero, wrote-turn, wrote-length, room-turn}
+use Rattle.listing.proofs.write_bits.Statement.{statement}
+use Rattle.listing.proofs.write_bits.Tie as tie
+
+abbrev Inv-loop : tie.InvT-loop
+Inv-loop marks text₀ at next₀ bit₀ text next bit = (bit ≤ lastBit + 1) × Wrote (joined (bitLines marks) bit) at next text₀ text
+
+abbrev μ-loop : tie.MeasureT-loop
+μ-loop marks text₀ at next₀ bit₀ text next bit = lastBit + 1 - bit
+
+loop-holds : tie.Need-loop-holds Inv-loop μ-loop
+loop-holds c = (omega arith, wrote-zero _ _ _)
+
+write-bit-requires : tie.Need-write-bit-requires Inv-loop μ-loop
+write-bit-requires c κs =
+    let h = c .before .before in
+    let s = h .before .before .before in
+    (room-turn (bitLines (s .args .marks .now)) (s .pre .0) (omega arith) (h .loop .inv .1), omega arith)
+
+add-bit : tie.Need-add-bit Inv-loop μ-loop
+add-bit c = search needs
+
+loop-less : tie.Need-loop-less Inv-loop μ-loop
+loop-less c = search needs
+
+loop-again : tie.Need-loop-again Inv-loop μ-loop
+loop-again c =
+    let w = c .before .before in
+    let h = w .before .before .before in
+    (omega arith, wrote-turn (bitLines (h .before .before .before .args .marks .now)) (h .loop .inv .1) (w .write-bit .ensures))
+
+same-length : tie.Need-same-length Inv-loop μ-loop
+same-length c = wrote-length (c .before .loop .inv .1)
+
+returns : tie.Need-returns Inv-loop μ-loop
+returns c =
+    let all : c .before .loop .bit ≡ lastBit + 1 = omega arith in
+    rw all at (c .before .loop .inv .1)
+
+pub write-bits-spec : {M : Type 1} → statement M
+write-bits-spec =
+    tie.close
+    (tie.spec
+    Inv-loop
+    μ-loop
+    loop-holds
+    write-bit-requires
+    add-bit
+    loop-less
+    loop-again
+    same-length
+    returns)

@@ -1,0 +1,61 @@
+-- `write_first` meets its contract: its items one behind the other.
+use mathlib.Core.List.{[], _∷_}
+use borrow.Author.Needs.{needs}
+use Rattle.listing.specs.Listing.{space, firstLine}
+use Rattle.listing.proofs.Writing.{wrote-join, room-first, room-next}
+use Rattle.listing.proofs.write_first.Statement.{statement}
+use Rattle.listing.proofs.write_first.Tie as tie
+
+slice-aggregate-write-word : tie.Need-slice-aggregate-write-word
+slice-aggregate-write-word c = search needs
+
+write-word-requires : tie.Need-write-word-requires
+unfolding firstLine
+write-word-requires c κs = room-first (86 ∷ 67 ∷ 80 ∷ space ∷ []) _ (c .before .before .before .pre)
+
+write-item-requires : tie.Need-write-item-requires
+unfolding firstLine
+write-item-requires c κs =
+    let w = c .before .before .before in
+    room-first _ _ (room-first _ _ (room-first _ _ (room-next _ (w .before .before .before .before .pre) (w .write-word .ensures))))
+
+write-item-requires-2 : tie.Need-write-item-requires-2
+unfolding firstLine
+write-item-requires-2 c κs =
+    let v = c .before .before .before in let w = v .before .before .before .before in
+    room-next _ (room-first _ _ (room-first _ _ (room-next _ (w .before .before .before .before .pre) (w .write-word .ensures)))) (v .write-item .ensures)
+
+write-item-requires-3 : tie.Need-write-item-requires-3
+unfolding firstLine
+write-item-requires-3 c κs =
+    let u = c .before .before .before in let v = u .before .before .before .before in let w = v .before .before .before .before in
+    room-next _ (room-first _ _ (room-next _ (w .before .before .before .before .pre) (w .write-word .ensures))) (wrote-join (v .write-item .ensures) (u .write-item2 .ensures))
+
+write-item-requires-4 : tie.Need-write-item-requires-4
+unfolding firstLine
+write-item-requires-4 c κs =
+    let t = c .before .before .before in let u = t .before .before .before .before in let v = u .before .before .before .before in let w = v .before .before .before .before in
+    room-next _ (room-next _ (w .before .before .before .before .pre) (w .write-word .ensures)) (wrote-join (wrote-join (v .write-item .ensures) (u .write-item2 .ensures)) (t .write-item3 .ensures))
+
+same-length : tie.Need-same-length
+same-length c = search needs
+
+returns : tie.Need-returns
+unfolding firstLine
+returns c =
+    let s = c .before .before in let t = s .before .before .before .before in let u = t .before .before .before .before in let v = u .before .before .before .before in let w = v .before .before .before .before in
+    wrote-join (w .write-word .ensures)
+    (wrote-join (wrote-join (wrote-join (v .write-item .ensures) (u .write-item2 .ensures)) (t .write-item3 .ensures)) (s .write-item4 .ensures))
+
+pub write-first-spec : {M : Type 1} → statement M
+write-first-spec =
+    tie.close
+    (tie.spec
+    slice-aggregate-write-word
+    write-word-requires
+    write-item-requires
+    write-item-requires-2
+    write-item-requires-3
+    write-item-requires-4
+    same-length
+    returns)

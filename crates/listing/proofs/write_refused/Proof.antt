@@ -1,0 +1,37 @@
+-- `write_refused` meets its contract: the word and the number, one behind the other.
+use mathlib.Core.List.{[], _∷_}
+use borrow.Author.Needs.{needs}
+use Rattle.listing.specs.Listing.{space, refusedLine}
+use Rattle.listing.proofs.Writing.{wrote-join, room-first, room-next}
+use Rattle.listing.proofs.write_refused.Statement.{statement}
+use Rattle.listing.proofs.write_refused.Tie as tie
+
+slice-aggregate-write-word : tie.Need-slice-aggregate-write-word
+slice-aggregate-write-word c = search needs
+
+write-word-requires : tie.Need-write-word-requires
+unfolding refusedLine
+write-word-requires c κs = room-first (114 ∷ 101 ∷ 102 ∷ 117 ∷ 115 ∷ 101 ∷ 100 ∷ space ∷ []) _ (c .before .before .before .pre)
+
+write-item-requires : tie.Need-write-item-requires
+unfolding refusedLine
+write-item-requires c κs =
+    let w = c .before .before .before in room-next _ (w .before .before .before .before .pre) (w .write-word .ensures)
+
+same-length : tie.Need-same-length
+same-length c = search needs
+
+returns : tie.Need-returns
+unfolding refusedLine
+returns c =
+    let v = c .before .before in wrote-join (v .before .before .before .before .write-word .ensures) (v .write-item .ensures)
+
+pub write-refused-spec : {M : Type 1} → statement M
+write-refused-spec =
+    tie.close
+    (tie.spec
+    slice-aggregate-write-word
+    write-word-requires
+    write-item-requires
+    same-length
+    returns)
