@@ -1,0 +1,31 @@
+-- What the exported functions over a road file answer and leave in the lent list: as the operation on the file's road does,
+-- unless the file is refused.
+use Prim.Native.Nat.{ℕ}
+use mathlib.Core.List.{List}
+use lib.IntN.{ℤ}
+use Rattle.terms.specs.Answers.{unless}
+use Rattle.terms.specs.declared.Answer.{Answer}
+use Rattle.terms.specs.declared.Verdict.{Verdict}
+use Rattle.terms.specs.declared.Verdict.the-variants.{Accepted, Fault}
+use Rattle.road.specs.Heights.{heightsAnswer, heightsList}
+use Rattle.file.specs.File.{roadIn}
+use Rattle.file.specs.Operations.{readVerdict, writeAnswer, writeList}
+
+-- the list as it was where there is a fault, else as the rest says
+abbrev pub keptUnless : {A : Type 0} → Verdict → List A → List A → List A
+keptUnless Accepted rest list = rest
+keptUnless (Fault k) rest list = list
+
+-- a file read and its road written again
+unfoldable pub rewriteAnswer : List ℕ → List ℕ → Answer
+rewriteAnswer file out = unless (readVerdict file) (writeAnswer (roadIn file) out)
+
+unfoldable pub rewriteList : List ℕ → List ℕ → List ℕ
+rewriteList file out = keptUnless (readVerdict file) (writeList (roadIn file) out) out
+
+-- a file read and the heights of its road
+unfoldable pub fileHeightsAnswer : List ℕ → List ℤ → Answer
+fileHeightsAnswer file list = unless (readVerdict file) (heightsAnswer (roadIn file) list)
+
+unfoldable pub fileHeightsList : List ℕ → List ℤ → List ℤ
+fileHeightsList file list = keptUnless (readVerdict file) (heightsList (roadIn file) list) list
