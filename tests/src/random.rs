@@ -26,13 +26,24 @@ impl Random {
         range.start() + above as u32
     }
 
+    /// A signed number of the range.
+    pub fn signed_within(&mut self, range: RangeInclusive<i32>) -> i32 {
+        let above = self.within(0..=range.end().abs_diff(*range.start()));
+        range.start().wrapping_add_unsigned(above)
+    }
+
+    /// True once in so many times.
+    pub fn once_in(&mut self, times: u32) -> bool {
+        self.within(1..=times) == 1
+    }
+
     /// A number from 1 to `greatest`, small ones as likely as great ones: first a limit is drawn by its number of bits.
     pub fn of_any_size(&mut self, greatest: u32) -> u32 {
         let limit = greatest >> self.within(0..=greatest.ilog2());
         self.within(1..=limit)
     }
 
-    pub fn one_of(&mut self, choices: &[u32]) -> u32 {
+    pub fn one_of<T: Copy>(&mut self, choices: &[T]) -> T {
         choices[self.within(0..=choices.len() as u32 - 1) as usize]
     }
 }

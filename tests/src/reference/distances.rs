@@ -5,7 +5,7 @@ use super::Answer;
 
 /// A purpose's reaction time in tenths of a second, and whether the braking term counts.
 struct Purpose {
-    tenths: u128,
+    tenths: i128,
     braking: bool,
 }
 

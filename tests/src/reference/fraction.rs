@@ -3,26 +3,32 @@
 use std::cmp::Ordering;
 use std::ops::{Add, Div, Mul};
 
-/// A fraction that is not negative; its denominator is not 0.
+/// A fraction; its denominator is positive.
 #[derive(Clone, Copy, Debug)]
 pub struct Fraction {
-    numerator: u128,
-    denominator: u128,
+    numerator: i128,
+    denominator: i128,
 }
 
 impl Fraction {
-    pub fn new(numerator: u128, denominator: u128) -> Fraction {
-        assert!(denominator != 0, "a fraction's denominator is not 0");
+    pub fn new(numerator: i128, denominator: i128) -> Fraction {
+        assert!(denominator > 0, "a fraction's denominator is positive");
         Fraction { numerator, denominator }
     }
 
-    pub fn whole(number: u128) -> Fraction {
+    pub fn whole(number: i128) -> Fraction {
         Fraction::new(number, 1)
     }
 
-    /// The whole number at or next below.
-    pub fn floor(self) -> u128 {
-        self.numerator / self.denominator
+    /// The whole number at or next below, also of a negative fraction.
+    pub fn floor(self) -> i128 {
+        self.numerator.div_euclid(self.denominator)
+    }
+}
+
+impl From<u32> for Fraction {
+    fn from(number: u32) -> Fraction {
+        Fraction::whole(number.into())
     }
 }
 

@@ -3,7 +3,12 @@
 
 pub mod crest;
 pub mod distances;
+pub mod file;
 pub mod fraction;
+pub mod listing;
+pub mod marks;
+pub mod road;
+pub mod sight;
 
 /// The value, or the number of the refusal.
 pub type Answer = Result<u32, u32>;

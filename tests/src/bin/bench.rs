@@ -1,0 +1,226 @@
+//! `make bench`: the proved functions beside the same calculations in safe Rust and beside the literal rule, on the same
+//! inputs in one run. The two sides take turns round by round, so that the machine's load falls on both alike. Times are
+//! those on the processor: what other programs took meanwhile does not count.
+
+use std::fs;
+use std::hint::black_box;
+
+use sight_tests::quick;
+use sight_tests::random::Random;
+use sight_tests::reference::crest::Crest;
+use sight_tests::reference::distances::required_distance;
+use sight_tests::reference::file::bytes;
+use sight_tests::reference::road::{Curve, Road};
+use sight_tests::reference::{signed, Answer};
+use sight_tests::van;
+
+const ROUNDS: usize = 15;
+
+/// A side's turn in a round lasts at least so many microseconds: what is quick is repeated.
+const TURN: f64 = 2_000.0;
+
+/// The slowest that the van may be beside safe Rust, on roads.
+const TIMES_RUST: f64 = 1.1;
+
+/// The least that the van is faster than the literal rule, on long roads.
+const TIMES_FASTER: f64 = 20.0;
+
+/// The C library's clock of the time that this thread had on the processor, which Rust's own library does not offer.
+const THREAD_CLOCK: i32 = 3;
+
+#[repr(C)]
+#[derive(Default)]
+struct ClockTime {
+    seconds: i64,
+    nanoseconds: i64,
+}
+
+extern "C" {
+    fn clock_gettime(clock: i32, time: *mut ClockTime) -> i32;
+}
+
+/// The microseconds that this thread had on the processor so far.
+fn processor_time() -> f64 {
+    let mut time = ClockTime::default();
+    // SAFETY: it writes the two numbers of a timespec, which are these on 64-bit Linux.
+    assert_eq!(unsafe { clock_gettime(THREAD_CLOCK, &mut time) }, 0, "the clock can be read");
+    time.seconds as f64 * 1e6 + time.nanoseconds as f64 / 1e3
+}
+
+/// One side: it does its work once.
+type Side<'a> = &'a mut dyn FnMut();
+
+/// The medians of both sides in microseconds, and the median of the rounds' ratios, the van's time to the other's.
+struct Times {
+    van: f64,
+    other: f64,
+    ratio: f64,
+}
+
+fn median(mut numbers: Vec<f64>) -> f64 {
+    numbers.sort_unstable_by(f64::total_cmp);
+    numbers[numbers.len() / 2]
+}
+
+/// The microseconds of one repetition.
+fn measure(side: Side, repetitions: u32) -> f64 {
+    let start = processor_time();
+    for _ in 0..repetitions {
+        side();
+    }
+    (processor_time() - start) / f64::from(repetitions)
+}
+
+/// How often a side is repeated in its turn.
+fn repetitions(side: Side) -> u32 {
+    let mut many = 1;
+    while measure(&mut *side, many) * f64::from(many) < TURN {
+        many *= 2;
+    }
+    many
+}
+
+/// Both sides in turn, the one that begins changing with each round.
+fn side_by_side(van: Side, other: Side) -> Times {
+    let (van_many, other_many) = (repetitions(&mut *van), repetitions(&mut *other));
+    let (mut van_times, mut other_times) = (Vec::new(), Vec::new());
+    for round in 0..ROUNDS {
+        if round % 2 == 0 {
+            van_times.push(measure(&mut *van, van_many));
+            other_times.push(measure(&mut *other, other_many));
+        } else {
+            other_times.push(measure(&mut *other, other_many));
+            van_times.push(measure(&mut *van, van_many));
+        }
+    }
+    let ratios = van_times.iter().zip(&other_times).map(|(van, other)| van / other).collect();
+    Times { van: median(van_times), other: median(other_times), ratio: median(ratios) }
+}
+
+/// A calculation that marks a road file.
+type Marking = fn(&[u8], &mut [u8]) -> Answer;
+
+/// The van's marking beside another, which gives the same bytes.
+fn markings(road: &Road, other: Marking) -> Times {
+    let file = bytes(road);
+    let stations = road.length as usize + 1;
+    let (mut van_marks, mut other_marks) = (vec![0xFF; stations], vec![0xFF; stations]);
+    assert_eq!(van::mark_road_file(&file, &mut van_marks), stations as i32, "{road:?}");
+    assert_eq!(other(&file, &mut other_marks), Ok(stations as u32), "{road:?}");
+    assert_eq!(van_marks, other_marks, "{road:?}");
+    side_by_side(
+        &mut || {
+            black_box(van::mark_road_file(black_box(&file), black_box(&mut van_marks)));
+        },
+        &mut || {
+            let _ = black_box(other(black_box(&file), black_box(&mut other_marks)));
+        },
+    )
+}
+
+/// The van's crest length beside the Rust one, which gives the same lengths: the times of one crest.
+fn crest_lengths() -> Times {
+    let mut random = Random::new(1);
+    let crests: Vec<Crest> = (0..1_000)
+        .map(|_| Crest {
+            drop: random.within(1..=3_000),
+            sight: random.of_any_size(800),
+            eye: random.within(1..=50_000),
+            object: random.within(1..=50_000),
+        })
+        .collect();
+    let van_length = |crest: Crest| van::crest_length(crest.drop, crest.sight, crest.eye, crest.object);
+    for &crest in &crests {
+        assert_eq!(van_length(crest), signed(quick::crest_length(crest)), "{crest:?}");
+    }
+    let Times { van, other, ratio } = side_by_side(
+        &mut || {
+            for &crest in &crests {
+                black_box(van_length(black_box(crest)));
+            }
+        },
+        &mut || {
+            for &crest in &crests {
+                let _ = black_box(quick::crest_length(black_box(crest)));
+            }
+        },
+    );
+    Times { van: van / crests.len() as f64, other: other / crests.len() as f64, ratio }
+}
+
+/// A level road whose decision distance is that of purpose E.
+fn level(length: u32, speed: u8) -> Road {
+    Road { speed, purpose: 5, length, start_height: 0, first_grade: 0, curves: vec![] }
+}
+
+/// A road of 8,000 m with a short curve every 250 m, from this grade to those that follow it.
+fn curved(first_grade: i16, grade_out: impl Fn(i16) -> i16) -> Road {
+    let curve = |place: i16| Curve { pvi: 125 + 250 * place as u32, length: 120, grade_out: grade_out(place) };
+    Road { first_grade, curves: (0..32).map(curve).collect(), ..level(8_000, 130) }
+}
+
+/// The roads with their names, the long ones first.
+fn roads() -> Vec<(&'static str, Road)> {
+    let crest = Curve { pvi: 150, length: 60, grade_out: -400 };
+    vec![
+        ("8,000 m level", level(8_000, 130)),
+        ("8,000 m, 32 crests", curved(1_440, |place| 1_440 - 90 * (place + 1))),
+        ("8,000 m, 16 crests and 16 sags", curved(400, |place| if place % 2 == 0 { -400 } else { 400 })),
+        ("300 m, one crest", Road { purpose: 1, first_grade: 400, curves: vec![crest], ..level(300, 60) }),
+    ]
+}
+
+fn row(name: &str, other: &str, times: &Times, ratio: [f64; 2], target: &str) {
+    let Times { van, other: time, .. } = times;
+    let [of_medians, of_rounds] = ratio;
+    println!("{name:32} {other:12} {van:12.3} {time:14.3} {of_medians:9.2} {of_rounds:9.2}  {target}");
+}
+
+fn verdict(met: bool) -> &'static str {
+    if met {
+        "met"
+    } else {
+        "missed"
+    }
+}
+
+/// Ratios to safe Rust are the van's time to Rust's; those to the literal rule say how much faster the van is.
+fn comparisons() {
+    println!("{:32} {:12} {:>12} {:>14} {:>9} {:>9}", "", "", "van", "the other", "ratio of", "median");
+    println!("{:32} {:12} {:>12} {:>14} {:>9} {:>9}  target", "marking", "beside", "us", "us", "medians", "ratio");
+    for (name, road) in roads() {
+        let times = markings(&road, quick::mark_road_file);
+        let target = format!("at most {TIMES_RUST}: {}", verdict(times.ratio <= TIMES_RUST));
+        row(name, "safe Rust", &times, [times.van / times.other, times.ratio], &target);
+    }
+    for (name, road) in roads() {
+        let times = markings(&road, quick::mark_road_file_literally);
+        let faster = 1.0 / times.ratio;
+        let target = format!("at least {TIMES_FASTER}: {}", verdict(faster >= TIMES_FASTER));
+        let target = if road.length == 8_000 { &target } else { "" };
+        row(name, "literal rule", &times, [times.other / times.van, faster], target);
+    }
+    let times = crest_lengths();
+    row("crest length", "safe Rust", &times, [times.van / times.other, times.ratio], "");
+}
+
+/// How the marking of a level road grows, on both sides in microseconds.
+fn growth(roads: impl Iterator<Item = Road>) {
+    println!("{:>8} {:>6} {:>12} {:>12} {:>12}", "road m", "km/h", "required m", "van us", "safe Rust us");
+    for road in roads {
+        let required = required_distance(road.speed.into(), road.purpose.into()).expect("the speed is accepted");
+        let Times { van, other, .. } = markings(&road, quick::mark_road_file);
+        println!("{:8} {:6} {required:12} {van:12.1} {other:12.1}", road.length, road.speed);
+    }
+}
+
+fn main() {
+    let load = fs::read_to_string("/proc/loadavg").unwrap_or_default();
+    let load = load.split(' ').next().unwrap_or_default();
+    println!("Medians of {ROUNDS} rounds; both sides built for release; load of the machine {load}\n");
+    comparisons();
+    println!("\nMarking a level road, by its length");
+    growth([1_000, 2_000, 4_000, 8_000].into_iter().map(|length| level(length, 130)));
+    println!("\nMarking a level road, by the required distance");
+    growth([20, 60, 90, 130].into_iter().map(|speed| level(8_000, speed)));
+}

@@ -1,0 +1,88 @@
+//! Document 01, "Marks and zones".
+
+use super::distances::required_distance;
+use super::file::read;
+use super::road::stored_height;
+use super::sight::{available_sight, list_verdict, whole_heights, Look};
+use super::Answer;
+
+/// 1.08 m and 0.60 m (source document 002), in h-units.
+pub const EYE: u32 = 10_800;
+pub const OBJECT: u32 = 6_000;
+
+/// The verdict on a station for one required distance.
+#[derive(Clone, Copy, PartialEq)]
+enum Finding {
+    NotJudged,
+    Lacking,
+    There,
+}
+
+fn finding(heights: &[i64], i: usize, required: u32) -> Finding {
+    let look = Look { eye: EYE, object: OBJECT, farthest: required };
+    let last = heights.len() - 1;
+    if i + required as usize > last {
+        Finding::NotJudged
+    } else if available_sight(heights, look, i) < required as usize {
+        Finding::Lacking
+    } else {
+        Finding::There
+    }
+}
+
+/// A station's byte, from the distances required for stopping and for the decision.
+pub fn mark(heights: &[i64], i: usize, stopping: u32, decision: u32) -> u8 {
+    let [stopping, decision] = [stopping, decision].map(|required| finding(heights, i, required));
+    let bits = [
+        stopping == Finding::Lacking,
+        decision == Finding::Lacking,
+        decision == Finding::Lacking && stopping == Finding::There,
+        stopping == Finding::NotJudged,
+        decision == Finding::NotJudged,
+    ];
+    bits.iter().enumerate().map(|(bit, &set)| u8::from(set) << bit).sum()
+}
+
+pub fn marks(speed: u32, purpose: u32, heights: &[i32], list: &mut [u8]) -> Answer {
+    let stopping = required_distance(speed, 0)?;
+    if !(1..=5).contains(&purpose) {
+        return Err(7);
+    }
+    let decision = required_distance(speed, purpose)?;
+    list_verdict(heights.len())?;
+    if list.len() < heights.len() {
+        return Err(14);
+    }
+    let whole = whole_heights(heights);
+    for (i, place) in list[..heights.len()].iter_mut().enumerate() {
+        *place = mark(&whole, i, stopping, decision);
+    }
+    Ok(heights.len() as u32)
+}
+
+pub fn mark_road_file(file: &[u8], list: &mut [u8]) -> Answer {
+    let road = read(file)?;
+    let heights: Vec<i32> = (0..=road.length).map(|station| stored_height(&road, station)).collect();
+    marks(road.speed.into(), road.purpose.into(), &heights, list)
+}
+
+/// All longest runs of stations with this bit, ascending, each as its first and last station.
+pub fn runs(marks: &[u8], bit: u32) -> Vec<[u16; 2]> {
+    let has_bit = |station: usize| marks.get(station).is_some_and(|mark| mark >> bit & 1 == 1);
+    let firsts = (0..marks.len()).filter(|&station| has_bit(station) && (station == 0 || !has_bit(station - 1)));
+    let lasts = (0..marks.len()).filter(|&station| has_bit(station) && !has_bit(station + 1));
+    firsts.zip(lasts).map(|(first, last)| [first as u16, last as u16]).collect()
+}
+
+pub fn zones(marks: &[u8], bit: u32, list: &mut [u16]) -> Answer {
+    if bit > 4 {
+        return Err(22);
+    }
+    list_verdict(marks.len())?;
+    let zones = runs(marks, bit);
+    if list.len() < 2 * zones.len() {
+        return Err(23);
+    }
+    list[..2 * zones.len()].copy_from_slice(&zones.concat());
+    Ok(zones.len() as u32)
+}

@@ -1,0 +1,129 @@
+//! Document 01, "The road and its heights", and the refusals of a road handed over as a value.
+
+use super::fraction::Fraction;
+use super::Answer;
+
+#[derive(Clone, Copy, Debug, PartialEq)]
+pub struct Curve {
+    pub pvi: u32,
+    pub length: u16,
+    pub grade_out: i16,
+}
+
+/// A road as a value. Its number of curves is that of the list, which holds no unused places.
+#[derive(Clone, Debug, PartialEq)]
+pub struct Road {
+    pub speed: u8,
+    pub purpose: u8,
+    pub length: u32,
+    pub start_height: i32,
+    pub first_grade: i16,
+    pub curves: Vec<Curve>,
+}
+
+impl Curve {
+    /// PVI − L/2, which is negative where the curve begins before the road.
+    pub fn begin(&self) -> i64 {
+        i64::from(self.pvi) - i64::from(self.length) / 2
+    }
+
+    /// PVI + L/2.
+    pub fn end(&self) -> i64 {
+        i64::from(self.pvi) + i64::from(self.length) / 2
+    }
+}
+
+/// Refusals 4 and 6 to 13, in document 01's order.
+pub fn verdict(road: &Road) -> Result<(), u32> {
+    let grade_in_range = |grade: i16| (-1_500..=1_500).contains(&grade);
+    if road.curves.len() > 32 {
+        return Err(4);
+    }
+    if !(20..=130).contains(&road.speed) {
+        return Err(6);
+    }
+    if !(1..=5).contains(&road.purpose) {
+        return Err(7);
+    }
+    if !(1..=8_000).contains(&road.length) {
+        return Err(8);
+    }
+    if !(-10_000_000..=90_000_000).contains(&road.start_height) {
+        return Err(9);
+    }
+    if !grade_in_range(road.first_grade) {
+        return Err(10);
+    }
+    for (place, curve) in road.curves.iter().enumerate() {
+        if !grade_in_range(curve.grade_out) {
+            return Err(10);
+        }
+        if curve.length % 2 == 1 || curve.length > 2_000 {
+            return Err(11);
+        }
+        if curve.begin() < 0 || curve.end() > i64::from(road.length) {
+            return Err(12);
+        }
+        if place > 0 && curve.begin() < road.curves[place - 1].end() {
+            return Err(13);
+        }
+    }
+    Ok(())
+}
+
+/// d metres after a curve's begin: begin height + (grade in) d + (grade out − grade in) d² / (2L).
+fn on_curve(begin_height: i128, grade_in: i128, grade_out: i128, length: i128, d: i128) -> Fraction {
+    Fraction::whole(begin_height + grade_in * d) + Fraction::new((grade_out - grade_in) * d * d, 2 * length)
+}
+
+/// The exact height of an accepted road at one of its stations.
+pub fn exact_height(road: &Road, station: u32) -> Fraction {
+    let station = i128::from(station);
+    // Where the straight begins that the profile is on, its height there, and the grade.
+    let mut from = 0;
+    let mut height = i128::from(road.start_height);
+    let mut grade = i128::from(road.first_grade);
+    for curve in &road.curves {
+        let [begin, end] = [curve.begin(), curve.end()].map(i128::from);
+        if station <= begin {
+            break;
+        }
+        let begin_height = height + grade * (begin - from);
+        let [length, grade_out] = [curve.length.into(), curve.grade_out.into()];
+        if station < end {
+            return on_curve(begin_height, grade, grade_out, length, station - begin);
+        }
+        height = begin_height;
+        if length > 0 {
+            let end_height = on_curve(begin_height, grade, grade_out, length, length);
+            height = end_height.floor();
+            assert!(end_height == Fraction::whole(height), "at a curve's end the exact height is whole: {road:?}");
+        }
+        from = end;
+        grade = grade_out;
+    }
+    Fraction::whole(height + grade * (station - from))
+}
+
+/// The exact heights of an accepted road at stations 0 to N.
+pub fn exact_heights(road: &Road) -> Vec<Fraction> {
+    (0..=road.length).map(|station| exact_height(road, station)).collect()
+}
+
+/// The whole number at or next below the exact height.
+pub fn stored_height(road: &Road, station: u32) -> i32 {
+    let height = exact_height(road, station).floor();
+    i32::try_from(height).expect("a stored height of an accepted road fits 32 bits")
+}
+
+pub fn heights(road: &Road, list: &mut [i32]) -> Answer {
+    verdict(road)?;
+    let stations = road.length + 1;
+    if list.len() < stations as usize {
+        return Err(14);
+    }
+    for (station, place) in (0..stations).zip(list) {
+        *place = stored_height(road, station);
+    }
+    Ok(stations)
+}

@@ -1,0 +1,92 @@
+//! Document 01, "What can be seen".
+
+use std::ops::{Add, Mul, RangeInclusive};
+
+use super::fraction::Fraction;
+use super::Answer;
+
+/// A height in h-units: a stored one, or an exact one on the parabolas and straights.
+pub trait Height: Copy + From<u32> + Add<Output = Self> + Mul<Output = Self> + PartialOrd {}
+impl Height for i64 {}
+impl Height for Fraction {}
+
+/// The heights of eye and object above the road and the farthest distance, as one asks for sight.
+#[derive(Clone, Copy, Debug)]
+pub struct Look {
+    pub eye: u32,
+    pub object: u32,
+    pub farthest: u32,
+}
+
+/// The line from the eye at i to the object at j clears or touches the road at k, a station between:
+/// (height i + e)(j − k) + (height j + o)(k − i) ≥ (height k)(j − i).
+pub fn clears<H: Height>(heights: &[H], look: Look, i: usize, k: usize, j: usize) -> bool {
+    let metres = |from: usize, to: usize| H::from((to - from) as u32);
+    let eye = heights[i] + H::from(look.eye);
+    let object = heights[j] + H::from(look.object);
+    eye * metres(k, j) + object * metres(i, k) >= heights[k] * metres(i, j)
+}
+
+/// From i the object at j is seen: the line clears or touches the road at every station strictly between.
+pub fn seen<H: Height>(heights: &[H], look: Look, i: usize, j: usize) -> bool {
+    (i + 1..j).all(|k| clears(heights, look, i, k, j))
+}
+
+/// The stations ahead of i that come into question: at most the farthest distance, at most those left.
+pub fn ahead<H>(heights: &[H], look: Look, i: usize) -> RangeInclusive<usize> {
+    let last = heights.len() - 1;
+    i + 1..=last.min(i + look.farthest as usize)
+}
+
+/// The available sight: how many stations ahead are seen before the first hidden one.
+pub fn available_sight<H: Height>(heights: &[H], look: Look, i: usize) -> usize {
+    ahead(heights, look, i).take_while(|&j| seen(heights, look, i, j)).count()
+}
+
+/// Stored heights in the numbers that sight is worked out in.
+pub fn whole_heights(heights: &[i32]) -> Vec<i64> {
+    heights.iter().copied().map(i64::from).collect()
+}
+
+/// Refusal 19, of a list with a place for each station.
+pub fn list_verdict(places: usize) -> Result<(), u32> {
+    if (1..=8_001).contains(&places) {
+        Ok(())
+    } else {
+        Err(19)
+    }
+}
+
+/// Refusals 17 and 21.
+fn look_verdict(look: Look) -> Result<(), u32> {
+    if !(1..=50_000).contains(&look.eye) || !(1..=50_000).contains(&look.object) {
+        return Err(17);
+    }
+    if !(1..=8_000).contains(&look.farthest) {
+        return Err(21);
+    }
+    Ok(())
+}
+
+/// Sight from one station.
+pub fn sight(heights: &[i32], station: u32, look: Look) -> Answer {
+    list_verdict(heights.len())?;
+    if station as usize >= heights.len() {
+        return Err(20);
+    }
+    look_verdict(look)?;
+    Ok(available_sight(&whole_heights(heights), look, station as usize) as u32)
+}
+
+pub fn sight_profile(heights: &[i32], look: Look, sights: &mut [u16]) -> Answer {
+    list_verdict(heights.len())?;
+    look_verdict(look)?;
+    if sights.len() < heights.len() {
+        return Err(14);
+    }
+    let whole = whole_heights(heights);
+    for (i, place) in sights[..heights.len()].iter_mut().enumerate() {
+        *place = available_sight(&whole, look, i) as u16;
+    }
+    Ok(heights.len() as u32)
+}

@@ -1,0 +1,82 @@
+//! Document 01, "The lister": the program, from standard input to standard output.
+
+use std::io::Write;
+use std::path::Path;
+use std::process::{Command, Stdio};
+
+use sight_tests::random::Random;
+use sight_tests::reference::file::{bytes, read};
+use sight_tests::reference::listing::listing;
+use sight_tests::roads;
+
+/// What the lister, which `rt ci` proved and built, writes for a file.
+fn listed(file: &[u8]) -> String {
+    let program = Path::new(env!("CARGO_MANIFEST_DIR")).join("../target/bin/lister");
+    let mut lister = Command::new(&program)
+        .stdin(Stdio::piped())
+        .stdout(Stdio::piped())
+        .spawn()
+        .unwrap_or_else(|error| panic!("{} does not run: {error}", program.display()));
+    // A file longer than any road's may be left unread in part.
+    let _ = lister.stdin.take().expect("standard input is piped").write_all(file);
+    let output = lister.wait_with_output().expect("the lister ends");
+    assert!(output.status.success());
+    String::from_utf8(output.stdout).expect("a listing is text")
+}
+
+fn compare(file: &[u8]) -> String {
+    let text = listed(file);
+    assert_eq!(text, listing(file), "{file:02X?}");
+    text
+}
+
+/// Document 01's example, byte by byte.
+#[test]
+fn example_of_document_01() {
+    let file = [
+        0x56, 0x43, 0x50, 0x01, 0x00, 0x14, 0x01, 0x2C, 0x01, 0x00, 0x00, 0x00, 0x00, 0xDC, 0x05, 0x01, 0x64, 0x00,
+        0x00, 0x00, 0x24, 0xFA,
+    ];
+    let lines = "VCP 1 20 20 25\nS 83 95\nD 78 96\nR 78 82\nR 96 96\ns 281 300\nd 276 300\n";
+    assert_eq!(compare(&file), lines);
+}
+
+#[test]
+fn random_runs_of_short_crests() {
+    let mut random = Random::new(41);
+    let mut zones = 0;
+    for _ in 0..500 {
+        let room = random.within(2..=100);
+        let mut road = roads::run_of_crests(&mut random, room);
+        road.length += random.within(0..=100);
+        road.speed = random.one_of(&[20, 25, 30, 35, 40]);
+        zones += compare(&bytes(&road)).lines().count() - 1;
+    }
+    assert!(zones > 1_000, "{zones} zones");
+}
+
+#[test]
+fn longest_road() {
+    let mut random = Random::new(42);
+    let mut road = roads::longest(&mut random);
+    road.speed = 30;
+    assert!(compare(&bytes(&road)).lines().count() > 1);
+}
+
+/// A refused file has one line, whatever it holds; so has one that is longer than any road's.
+#[test]
+fn refused_files() {
+    let mut random = Random::new(43);
+    let mut met = [0; 14];
+    for round in 0..1_000 {
+        let refusal = 1 + round % 13;
+        let mut file = roads::faulty_file(&mut random, &[refusal]);
+        if round % 7 == 0 {
+            file.extend((0..random.within(1..=400)).map(|_| random.bits() as u8));
+        }
+        let Err(refusal) = read(&file) else { continue };
+        assert_eq!(compare(&file), format!("refused {refusal}\n"));
+        met[refusal as usize] += 1;
+    }
+    assert!(met[1..].iter().all(|&many| many > 20), "{met:?}");
+}

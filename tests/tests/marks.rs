@@ -1,0 +1,198 @@
+//! Document 01, "Marks and zones": the marking of a road file.
+
+use sight_tests::random::Random;
+use sight_tests::reference::distances::required_distance;
+use sight_tests::reference::file::{bytes, read};
+use sight_tests::reference::marks::{mark_road_file, runs};
+use sight_tests::reference::road::{Curve, Road};
+use sight_tests::reference::signed;
+use sight_tests::roads;
+use sight_tests::tally::Tally;
+use sight_tests::van;
+
+/// The bits of a mark, by their letters in the listing.
+const S: u8 = 1;
+const D: u8 = 2;
+const R: u8 = 4;
+const NO_S: u8 = 8;
+const NO_D: u8 = 16;
+
+/// The van marks `places` bytes just as the second calculation does, and the rest stays.
+fn compare(random: &mut Random, file: &[u8], places: usize) -> (i32, Vec<u8>) {
+    let before: Vec<u8> = (0..places).map(|_| random.bits() as u8).collect();
+    let (mut marks, mut second) = (before.clone(), before.clone());
+    let answer = van::mark_road_file(file, &mut marks);
+    assert_eq!(answer, signed(mark_road_file(file, &mut second)), "{places} places, {file:02X?}");
+    assert_eq!(marks, second, "{places} places, {file:02X?}");
+    if answer < 0 {
+        assert_eq!(marks, before, "a refusal changes nothing");
+    }
+    (answer, marks)
+}
+
+/// Compares an accepted file in buffers that are one place too short, empty, and long enough. Answers the marks.
+fn compare_accepted(random: &mut Random, file: &[u8]) -> Vec<u8> {
+    let stations = read(file).expect("the road is accepted").length as usize + 1;
+    assert_eq!(compare(random, file, stations - 1).0, -14);
+    assert_eq!(compare(random, file, 0).0, -14);
+    let more = random.within(0..=3) as usize;
+    let (answer, mut marks) = compare(random, file, stations + more);
+    assert_eq!(answer, stations as i32);
+    marks.truncate(stations);
+    marks
+}
+
+/// How many marks have each of the eight bits.
+#[derive(Default)]
+struct Bits([usize; 8]);
+
+impl Bits {
+    fn count(&mut self, marks: &[u8]) {
+        for (bit, many) in self.0.iter_mut().enumerate() {
+            *many += marks.iter().filter(|&&mark| mark >> bit & 1 == 1).count();
+        }
+    }
+}
+
+#[test]
+fn example_of_document_01() {
+    let road = Road {
+        speed: 20,
+        purpose: 1,
+        length: 300,
+        start_height: 0,
+        first_grade: 1_500,
+        curves: vec![Curve { pvi: 100, length: 0, grade_out: -1_500 }],
+    };
+    let marks = compare_accepted(&mut Random::new(26), &bytes(&road));
+    let zones: [&[[u16; 2]]; 8] =
+        [&[[83, 95]], &[[78, 96]], &[[78, 82], [96, 96]], &[[281, 300]], &[[276, 300]], &[], &[], &[]];
+    for (bit, zones) in (0..).zip(zones) {
+        assert_eq!(runs(&marks, bit), zones, "bit {bit}");
+    }
+}
+
+/// Runs of short crests and sags close behind each other, with a straight behind them so that they are judged.
+#[test]
+fn random_runs_of_short_crests() {
+    let mut random = Random::new(27);
+    let mut bits = Bits::default();
+    for round in 0..42_000 {
+        // Most are short, so that there can be many.
+        let most = if round % 20 == 0 { 150 } else { 24 };
+        let room = random.within(2..=most);
+        let mut road = roads::run_of_crests(&mut random, room);
+        road.length += random.within(0..=most);
+        road.speed = random.one_of(&[20, 21, 25, 30, 35, 40, 50, 60]);
+        bits.count(&compare_accepted(&mut random, &bytes(&road)));
+    }
+    assert!(bits.0[..5].iter().all(|&many| many > 4_000), "{:?}", bits.0);
+    assert_eq!(bits.0[5..], [0; 3]);
+}
+
+#[test]
+fn random_roads_of_every_kind() {
+    let mut random = Random::new(28);
+    let mut bits = Bits::default();
+    for _ in 0..1_000 {
+        let mut road = roads::any_road(&mut random);
+        if road.length > 200 {
+            road.speed = random.within(20..=30) as u8;
+        }
+        bits.count(&compare_accepted(&mut random, &bytes(&road)));
+    }
+    assert!(bits.0[..5].iter().all(|&many| many > 1_000), "{:?}", bits.0);
+    assert_eq!(bits.0[5..], [0; 3]);
+}
+
+/// Every speed and purpose, on a road that begins with a crest and is just long enough to be judged there.
+#[test]
+fn every_speed_and_purpose() {
+    let mut random = Random::new(29);
+    let mut bits = Bits::default();
+    for speed in 20..=130 {
+        for purpose in 1..=5 {
+            let decision = required_distance(speed, purpose).expect("speed and purpose are accepted");
+            let road = Road {
+                speed: speed as u8,
+                purpose: purpose as u8,
+                length: decision + 12,
+                start_height: 0,
+                first_grade: 1_500,
+                curves: vec![Curve { pvi: 9, length: 4, grade_out: -1_500 }],
+            };
+            bits.count(&compare_accepted(&mut random, &bytes(&road)));
+        }
+    }
+    assert!(bits.0.iter().zip([2_000, 2_000, 30, 50_000, 50_000]).all(|(&many, least)| many > least), "{:?}", bits.0);
+}
+
+/// Stations near the road's end are not judged: on a straight nothing is lacking, and the last R stations say so.
+#[test]
+fn near_the_end_nothing_is_lacking() {
+    let mut random = Random::new(30);
+    for length in 1..=80 {
+        let road = Road { speed: 30, purpose: 1, length, start_height: 0, first_grade: -1_500, curves: vec![] };
+        let marks = compare_accepted(&mut random, &bytes(&road));
+        let [stopping, decision] = [0, 1].map(|purpose| required_distance(30, purpose).expect("both are accepted"));
+        for (i, mark) in (0..).zip(marks) {
+            let no_s = if i + stopping > length { NO_S } else { 0 };
+            let no_d = if i + decision > length { NO_D } else { 0 };
+            assert_eq!(mark, no_s | no_d, "station {i} of {length}");
+        }
+    }
+}
+
+/// The run of three short crests at 90 km/h (see the tests of sight): station 194 lacks stopping sight.
+#[test]
+fn hump_behind_a_short_crest() {
+    let crest = |pvi: u32, grade_out: i16| Curve { pvi, length: 2, grade_out };
+    let road = Road {
+        speed: 90,
+        purpose: 1,
+        length: 400,
+        start_height: 0,
+        first_grade: 1_500,
+        curves: vec![crest(199, 700), crest(201, -200), crest(203, -300)],
+    };
+    let marks = compare_accepted(&mut Random::new(31), &bytes(&road));
+    assert_eq!(marks[194] & (S | R | NO_S), S);
+    assert!(marks.iter().any(|mark| mark & D != 0));
+}
+
+#[test]
+fn longest_road() {
+    let mut random = Random::new(32);
+    let mut road = roads::longest(&mut random);
+    road.speed = 30;
+    assert_eq!(compare_accepted(&mut random, &bytes(&road)).len(), 8_001);
+}
+
+/// A file is refused as reading refuses it, whatever the buffer is.
+#[test]
+fn refused_files() {
+    let mut random = Random::new(33);
+    let mut tally = Tally::default();
+    for _ in 0..60_000 {
+        let file = match random.within(0..=2) {
+            0 => {
+                let refusal = random.within(1..=13);
+                roads::faulty_file(&mut random, &[refusal])
+            }
+            1 => {
+                let refusals: Vec<u32> = (0..random.within(2..=5)).map(|_| random.within(1..=13)).collect();
+                roads::faulty_file(&mut random, &refusals)
+            }
+            _ => roads::noise(&mut random),
+        };
+        // Now and then the faults or the noise make a good road: it is left to the other tests.
+        let Err(refusal) = read(&file) else { continue };
+        let places = random.one_of(&[0, 1, 300, 9_000]);
+        let (answer, _) = compare(&mut random, &file, places);
+        assert_eq!(answer, -(refusal as i32));
+        tally.count(answer);
+    }
+    for refusal in 1..=13 {
+        assert!(tally.refused(refusal) > 1_000, "{} refused {refusal}", tally.refused(refusal));
+    }
+}

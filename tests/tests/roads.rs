@@ -1,0 +1,321 @@
+//! Document 01, "The road and its heights" and "Road file": heights are filled from a road file, and the file is
+//! written again from its road.
+
+use sight_tests::probe;
+use sight_tests::random::Random;
+use sight_tests::reference::file::{bytes, file_heights, read, rewrite};
+use sight_tests::reference::road::{Curve, Road};
+use sight_tests::reference::signed;
+use sight_tests::roads;
+use sight_tests::tally::Tally;
+
+fn curve(pvi: u32, length: u16, grade_out: i16) -> Curve {
+    Curve { pvi, length, grade_out }
+}
+
+/// An accepted road of 100 m at 80 km/h.
+fn road(first_grade: i16, curves: &[Curve]) -> Road {
+    Road { speed: 80, purpose: 1, length: 100, start_height: 0, first_grade, curves: curves.to_vec() }
+}
+
+/// The program fills `places` numbers with heights just as the second calculation does, and the rest stays.
+fn compare_heights(random: &mut Random, file: &[u8], places: usize) -> i32 {
+    let before: Vec<i32> = (0..places).map(|_| random.bits() as i32).collect();
+    let (mut filled, mut second) = (before.clone(), before.clone());
+    let answer = probe::heights(file, &mut filled);
+    assert_eq!(answer, signed(file_heights(file, &mut second)), "{places} places, {file:02X?}");
+    assert_eq!(filled, second, "{places} places, {file:02X?}");
+    if answer < 0 {
+        assert_eq!(filled, before, "a refusal changes nothing");
+    }
+    answer
+}
+
+/// The program writes into `places` bytes just as the second calculation does, and the rest stays.
+fn compare_rewriting(random: &mut Random, file: &[u8], places: usize) -> i32 {
+    let before: Vec<u8> = (0..places).map(|_| random.bits() as u8).collect();
+    let (mut written, mut second) = (before.clone(), before.clone());
+    let answer = probe::rewrite(file, &mut written);
+    assert_eq!(answer, signed(rewrite(file, &mut second)), "{places} places, {file:02X?}");
+    assert_eq!(written, second, "{places} places, {file:02X?}");
+    if answer < 0 {
+        assert_eq!(written, before, "a refusal changes nothing");
+    } else {
+        assert_eq!(written[..file.len()], *file, "a road is written as it was read");
+    }
+    answer
+}
+
+/// Compares an accepted file in buffers that are just long enough, one place too short, empty and longer. Answers how
+/// many stations it has.
+fn compare_accepted(random: &mut Random, file: &[u8]) -> usize {
+    let stations = read(file).expect("the road is accepted").length as usize + 1;
+    let more = random.of_any_size(50) as usize;
+    for (places, answer) in
+        [(stations, stations as i32), (stations + more, stations as i32), (stations - 1, -14), (0, -14)]
+    {
+        assert_eq!(compare_heights(random, file, places), answer);
+    }
+    let length = file.len();
+    for (places, answer) in [(length, length as i32), (length + more, length as i32), (length - 1, -14), (0, -14)] {
+        assert_eq!(compare_rewriting(random, file, places), answer);
+    }
+    stations
+}
+
+/// Compares a file of any kind in buffers of any length. Answers what both operations refuse it by, or the stations.
+fn compare_any(random: &mut Random, file: &[u8]) -> i32 {
+    if read(file).is_ok() {
+        return compare_accepted(random, file) as i32;
+    }
+    let places = random.one_of(&[0, 1, 50, 300, 10_000]);
+    let answer = compare_heights(random, file, places);
+    assert_eq!(compare_rewriting(random, file, places), answer);
+    answer
+}
+
+/// Both operations refuse this road by this number.
+fn expect_refused(road: &Road, refusal: i32) {
+    assert_eq!(compare_any(&mut Random::new(0), &bytes(road)), -refusal, "{road:?}");
+}
+
+fn expect_accepted(road: &Road) {
+    assert_eq!(compare_accepted(&mut Random::new(0), &bytes(road)), road.length as usize + 1);
+}
+
+#[test]
+fn cases_of_document_01() {
+    let cases: [(u16, &[(usize, i32)]); 2] = [(20, &[(41, 12_285), (50, 13_500), (100, 0)]), (18, &[(42, 12_583)])];
+    for (length, heights_there) in cases {
+        let file = bytes(&road(300, &[curve(50, length, -300)]));
+        let (mut filled, mut second) = ([0; 101], [0; 101]);
+        assert_eq!(probe::heights(&file, &mut filled), 101);
+        assert_eq!(file_heights(&file, &mut second), Ok(101));
+        for &(station, height) in heights_there {
+            assert_eq!(filled[station], height, "program, length {length}, station {station}");
+            assert_eq!(second[station], height, "second calculation, length {length}, station {station}");
+        }
+    }
+}
+
+/// Runs of short crests and sags close behind each other come first: there the next curve must be read in time.
+#[test]
+fn random_runs_of_short_crests() {
+    let mut random = Random::new(3);
+    let (mut stations, mut curves, mut touching) = (0, 0, 0);
+    for _ in 0..8_000 {
+        let room = random.within(2..=300);
+        let road = roads::run_of_crests(&mut random, room);
+        stations += compare_accepted(&mut random, &bytes(&road));
+        curves += road.curves.len();
+        touching += road.curves.windows(2).filter(|pair| pair[0].end() == pair[1].begin()).count();
+    }
+    assert!(stations > 600_000, "{stations} stations");
+    assert!(curves > 80_000 && touching > 40_000, "{curves} curves, {touching} touch the one before");
+}
+
+#[test]
+fn random_roads_of_every_kind() {
+    let mut random = Random::new(4);
+    let (mut stations, mut from_start, mut to_end, mut shared_station, mut full, mut longest) = (0, 0, 0, 0, 0, 0);
+    for _ in 0..8_000 {
+        let road = roads::any_road(&mut random);
+        stations += compare_accepted(&mut random, &bytes(&road));
+        from_start += usize::from(road.curves.first().is_some_and(|first| first.length > 0 && first.begin() == 0));
+        to_end += usize::from(road.curves.last().is_some_and(|last| last.end() == i64::from(road.length)));
+        let both_break_there = |pair: &[Curve]| pair[0].length + pair[1].length == 0 && pair[0].pvi == pair[1].pvi;
+        shared_station += usize::from(road.curves.windows(2).any(both_break_there));
+        full += usize::from(road.curves.len() == 32);
+        longest += usize::from(road.length == 8_000);
+    }
+    assert!(stations > 1_500_000, "{stations} stations");
+    assert!(from_start > 1_500, "{from_start} with a curve from station 0");
+    assert!(to_end > 3_000, "{to_end} with a curve up to the end");
+    assert!(shared_station > 500, "{shared_station} with two breaks at a station");
+    assert!(full > 1_000, "{full} with 32 curves");
+    assert!(longest > 30, "{longest} of 8,000 m");
+}
+
+/// The file of a road with one fault is refused by that fault's number.
+#[test]
+fn random_files_with_one_fault() {
+    let mut random = Random::new(5);
+    for refusal in 1..=13 {
+        for _ in 0..400 {
+            let file = roads::faulty_file(&mut random, &[refusal]);
+            assert_eq!(compare_any(&mut random, &file), -(refusal as i32), "{file:02X?}");
+        }
+    }
+}
+
+#[test]
+fn random_files_with_several_faults() {
+    let mut random = Random::new(6);
+    let mut tally = Tally::default();
+    for _ in 0..10_000 {
+        let refusals: Vec<u32> = (0..random.within(2..=5)).map(|_| random.within(1..=13)).collect();
+        let file = roads::faulty_file(&mut random, &refusals);
+        tally.count(compare_any(&mut random, &file));
+    }
+    for refusal in 1..=13 {
+        assert!(tally.refused(refusal) > 40, "{} refused {refusal}", tally.refused(refusal));
+    }
+}
+
+#[test]
+fn random_numbers_in_and_out_of_the_ranges() {
+    let mut random = Random::new(7);
+    let mut tally = Tally::default();
+    for _ in 0..10_000 {
+        let file = roads::careless_file(&mut random);
+        tally.count(compare_any(&mut random, &file));
+    }
+    assert!(tally.numbers() > 1_000, "{} accepted", tally.numbers());
+    for refusal in 6..=13 {
+        assert!(tally.refused(refusal) > 40, "{} refused {refusal}", tally.refused(refusal));
+    }
+}
+
+#[test]
+fn random_bytes() {
+    let mut random = Random::new(8);
+    let mut tally = Tally::default();
+    for _ in 0..20_000 {
+        let file = roads::noise(&mut random);
+        tally.count(compare_any(&mut random, &file));
+    }
+    for refusal in 1..=10 {
+        assert!(tally.refused(refusal) > 40, "{} refused {refusal}", tally.refused(refusal));
+    }
+}
+
+/// Every beginning of a file: refused 1 below 16 bytes and 5 after that, up to the whole.
+#[test]
+fn truncated_and_lengthened() {
+    let mut random = Random::new(9);
+    let file = bytes(&road(300, &[curve(10, 20, -300), curve(20, 0, 300), curve(60, 80, -300)]));
+    for length in 0..file.len() {
+        let refusal = if length < 16 { -1 } else { -5 };
+        assert_eq!(compare_any(&mut random, &file[..length]), refusal, "{length} bytes");
+    }
+    assert_eq!(compare_any(&mut random, &file), 101);
+    for more in 1..=200 {
+        assert_eq!(compare_any(&mut random, &[file.clone(), vec![0; more]].concat()), -5, "{more} bytes more");
+    }
+}
+
+#[test]
+fn file_refusals_at_each_edge() {
+    let mut random = Random::new(10);
+    let good = bytes(&road(300, &[]));
+    let mut expect = |at: usize, byte: u8, answer: i32| {
+        let mut file = good.clone();
+        file[at] = byte;
+        assert_eq!(compare_any(&mut random, &file), answer, "byte {at} is {byte}");
+    };
+    for byte in 0..=255 {
+        for (at, letter) in (0..).zip(*b"VCP") {
+            expect(at, byte, if byte == letter { 101 } else { -2 });
+        }
+        expect(3, byte, if byte == 1 { 101 } else { -3 });
+        expect(4, byte, if byte == 0 { 101 } else { -3 });
+        expect(5, byte, if (20..=130).contains(&byte) { 101 } else { -6 });
+        expect(6, byte, if (1..=5).contains(&byte) { 101 } else { -7 });
+        expect(15, byte, [101, -5, -4][usize::from(byte > 0) + usize::from(byte > 32)]);
+    }
+    // 33 curves are refused 4 also where their records are there.
+    for (curves, answer) in [(32, 101), (33, -4)] {
+        let file = bytes(&road(300, &vec![curve(50, 0, 0); curves]));
+        assert_eq!(compare_any(&mut random, &file), answer, "{curves} curves");
+    }
+}
+
+#[test]
+fn road_refusals_at_each_edge() {
+    let good = road(300, &[curve(20, 20, -300), curve(60, 40, 300)]);
+    let with = |change: &dyn Fn(&mut Road)| {
+        let mut road = good.clone();
+        change(&mut road);
+        road
+    };
+    for (length, refusal) in [(0, 8), (1, 12), (79, 12), (8_001, 8), (65_535, 8)] {
+        expect_refused(&with(&|road| road.length = length), refusal);
+    }
+    for length in [80, 81, 8_000] {
+        expect_accepted(&with(&|road| road.length = length));
+    }
+    for height in [-10_000_001, 90_000_001, i32::MIN, i32::MAX] {
+        expect_refused(&with(&|road| road.start_height = height), 9);
+    }
+    for height in [-10_000_000, -1, 90_000_000] {
+        expect_accepted(&with(&|road| road.start_height = height));
+    }
+    for grade in [i16::MIN, -1_501, 1_501, i16::MAX] {
+        expect_refused(&with(&|road| road.first_grade = grade), 10);
+        expect_refused(&with(&|road| road.curves[0].grade_out = grade), 10);
+        expect_refused(&with(&|road| road.curves[1].grade_out = grade), 10);
+    }
+    for grade in [-1_500, 0, 1_500] {
+        expect_accepted(&with(&|road| road.first_grade = grade));
+        expect_accepted(&with(&|road| road.curves[0].grade_out = grade));
+        expect_accepted(&with(&|road| road.curves[1].grade_out = grade));
+    }
+    for length in [1, 19, 21, 2_001, 2_002, 65_535] {
+        expect_refused(&with(&|road| road.curves[0].length = length), 11);
+        expect_refused(&with(&|road| road.curves[1].length = length), 11);
+    }
+    expect_accepted(&with(&|road| (road.length, road.curves) = (2_000, vec![curve(1_000, 2_000, 0)])));
+    for (pvi, refusal) in [(0, 12), (9, 12), (91, 12), (65_535, 12)] {
+        expect_refused(&with(&|road| road.curves = vec![curve(pvi, 20, 0)]), refusal);
+    }
+    for pvi in [10, 90] {
+        expect_accepted(&with(&|road| road.curves = vec![curve(pvi, 20, 0)]));
+    }
+    for pvi in [0, 100] {
+        expect_accepted(&with(&|road| road.curves = vec![curve(pvi, 0, 0); 2]));
+    }
+    expect_refused(&with(&|road| road.curves = vec![curve(101, 0, 0)]), 12);
+    // The second curve may begin at 30, where the first one ends.
+    expect_refused(&with(&|road| road.curves[1].pvi = 49), 13);
+    expect_accepted(&with(&|road| road.curves[1].pvi = 50));
+    expect_refused(&with(&|road| road.curves[1] = curve(29, 0, 0)), 13);
+    expect_accepted(&with(&|road| road.curves[1] = curve(30, 0, 0)));
+}
+
+/// With two faults the lower number decides, wherever the fields stand. Those of two curves have their own test.
+#[test]
+fn refusals_in_order() {
+    let mut random = Random::new(11);
+    let mut pairs = 0;
+    for lower in 1..=9 {
+        for higher in lower + 1..=13 {
+            for _ in 0..20 {
+                let file = roads::faulty_file(&mut random, &[lower, higher]);
+                assert_eq!(compare_any(&mut random, &file), -(lower as i32), "{lower} and {higher}: {file:02X?}");
+                pairs += 1;
+            }
+        }
+    }
+    assert_eq!(pairs, 72 * 20);
+}
+
+/// Within a curve the lower number decides; between curves the lower curve.
+#[test]
+fn lowest_curve_with_a_fault_decides() {
+    // Each is at fault behind a curve from 40 to 60: by its grade, its length, its end and its begin.
+    let faults = [(10, curve(80, 0, 1_501)), (11, curve(80, 1, 0)), (12, curve(101, 0, 0)), (13, curve(59, 0, 0))];
+    let first = curve(50, 20, -300);
+    for (refusal, faulty) in faults {
+        expect_refused(&road(300, &[first, faulty]), refusal);
+        for (_, also_faulty) in faults {
+            expect_refused(&road(300, &[first, faulty, also_faulty]), refusal);
+        }
+        expect_refused(&road(1_501, &[first, faulty]), 10);
+    }
+    // One curve with more and more faults: it begins before the end of the first, ends behind the road, is odd, is
+    // steep.
+    expect_refused(&road(300, &[first, curve(60, 80, 0)]), 13);
+    expect_refused(&road(300, &[first, curve(60, 82, 0)]), 12);
+    expect_refused(&road(300, &[first, curve(60, 83, 0)]), 11);
+    expect_refused(&road(300, &[first, curve(60, 83, -1_501)]), 10);
+}

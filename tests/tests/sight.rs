@@ -1,0 +1,429 @@
+//! Document 01, "What can be seen": sight over lent heights, over those of roads, and on the exact parabolas and
+//! straights.
+
+use sight_tests::probe;
+use sight_tests::random::Random;
+use sight_tests::reference::distances::required_distance;
+use sight_tests::reference::file::bytes;
+use sight_tests::reference::marks::{EYE, OBJECT};
+use sight_tests::reference::road::{exact_heights, stored_height, Curve, Road};
+use sight_tests::reference::sight::{
+    ahead, available_sight, clears, seen, sight, sight_profile, whole_heights, Height, Look,
+};
+use sight_tests::reference::signed;
+use sight_tests::roads;
+use sight_tests::tally::Tally;
+
+fn look(eye: u32, object: u32, farthest: u32) -> Look {
+    Look { eye, object, farthest }
+}
+
+/// A look in which low eyes and objects are as likely as high ones.
+fn any_look(random: &mut Random, farthest: u32) -> Look {
+    look(random.of_any_size(50_000), random.of_any_size(50_000), random.of_any_size(farthest))
+}
+
+/// The program's sight from one station, which is that of the second calculation.
+fn compare_sight(heights: &[i32], station: u32, look: Look) -> i32 {
+    let answer = probe::sight(heights, station, look);
+    assert_eq!(answer, signed(sight(heights, station, look)), "station {station}, {look:?}, {heights:?}");
+    answer
+}
+
+/// The program fills `places` numbers with sights just as the second calculation does, and the rest stays.
+fn compare_profile(random: &mut Random, heights: &[i32], look: Look, places: usize) -> (i32, Vec<u16>) {
+    let before: Vec<u16> = (0..places).map(|_| random.bits() as u16).collect();
+    let (mut sights, mut second) = (before.clone(), before.clone());
+    let answer = probe::profile(heights, look, &mut sights);
+    assert_eq!(answer, signed(sight_profile(heights, look, &mut second)), "{places} places, {look:?}, {heights:?}");
+    assert_eq!(sights, second, "{places} places, {look:?}, {heights:?}");
+    if answer < 0 {
+        assert_eq!(sights, before, "a refusal changes nothing");
+    }
+    (answer, sights)
+}
+
+/// Compares the sight profile and the sight from each single station, which must agree. Answers the sights.
+fn compare_all(random: &mut Random, heights: &[i32], look: Look) -> Vec<u16> {
+    let stations = heights.len();
+    let more = random.within(0..=3) as usize;
+    let (answer, mut sights) = compare_profile(random, heights, look, stations + more);
+    assert_eq!(answer, stations as i32);
+    assert_eq!(compare_profile(random, heights, look, stations - 1).0, -14);
+    sights.truncate(stations);
+    for (station, &there) in (0..).zip(&sights) {
+        assert_eq!(probe::sight(heights, station, look), i32::from(there), "station {station}, {look:?}, {heights:?}");
+    }
+    sights
+}
+
+/// The heights of an accepted road, as the program fills them.
+fn program_heights(road: &Road) -> Vec<i32> {
+    let mut heights = vec![0; road.length as usize + 1];
+    assert_eq!(probe::heights(&bytes(road), &mut heights), road.length as i32 + 1, "{road:?}");
+    heights
+}
+
+#[test]
+fn cases_of_document_01() {
+    let cases: [(&[i32], Look, i32); 4] = [
+        (&[0, 20, 0, 100], look(10, 5, 8), 1),
+        (&[0, 5, 0], look(6, 4, 8), 2),
+        (&[0, 6, 0], look(6, 4, 8), 1),
+        (&[7], look(6, 4, 8), 0),
+    ];
+    let mut random = Random::new(12);
+    for (heights, look, answer) in cases {
+        assert_eq!(compare_sight(heights, 0, look), answer, "{heights:?}");
+        assert_eq!(i32::from(compare_all(&mut random, heights, look)[0]), answer, "{heights:?}");
+    }
+}
+
+/// The line from the eye at i to the object at j touches the road at k.
+fn touches(heights: &[i64], look: Look, i: usize, k: usize, j: usize) -> bool {
+    let [before, behind] = [k - i, j - k].map(|metres| metres as i64);
+    let [eye, object] = [heights[i] + i64::from(look.eye), heights[j] + i64::from(look.object)];
+    eye * behind + object * before == heights[k] * (before + behind)
+}
+
+/// At how many stations a comparison met what it is about.
+#[derive(Default)]
+struct Met {
+    stations: usize,
+    hidden: usize,
+    shown_again: usize,
+    touching: usize,
+}
+
+impl Met {
+    fn count(&mut self, heights: &[i32], look: Look, sights: &[u16]) {
+        let whole = whole_heights(heights);
+        for (i, &sight) in sights.iter().enumerate() {
+            let sight = usize::from(sight);
+            let mut beyond = ahead(&whole, look, i).skip(sight);
+            let touching = (i + 1..=i + sight).any(|j| (i + 1..j).any(|k| touches(&whole, look, i, k, j)));
+            self.stations += 1;
+            self.hidden += usize::from(beyond.next().is_some());
+            self.shown_again += usize::from(beyond.any(|j| seen(&whole, look, i, j)));
+            self.touching += usize::from(touching);
+        }
+    }
+}
+
+/// Heights of every size: neighbours in value, so that lines of sight touch the road, and the least and greatest.
+#[test]
+fn random_heights() {
+    let mut random = Random::new(13);
+    let mut met = Met::default();
+    for _ in 0..20_000 {
+        let stations = random.within(1..=25);
+        let limit = random.one_of(&[3, 10, 20, 10_000, 1_000_000, i32::MAX]);
+        let heights: Vec<i32> = (0..stations)
+            .map(|_| match random.within(0..=19) {
+                0 if limit > 10_000 => i32::MIN,
+                1 if limit > 10_000 => i32::MAX,
+                _ => random.signed_within(-limit..=limit),
+            })
+            .collect();
+        let greatest = random.one_of(&[2, 10, 20, 10_000, 50_000]);
+        let farthest = random.one_of(&[1, 2, 5, 24, 25, 8_000]);
+        let look = look(random.within(1..=greatest), random.within(1..=greatest), farthest);
+        let sights = compare_all(&mut random, &heights, look);
+        met.count(&heights, look, &sights);
+    }
+    assert!(met.stations > 200_000, "{} stations", met.stations);
+    assert!(met.hidden > 50_000, "{} with a hidden station ahead", met.hidden);
+    assert!(met.shown_again > 20_000, "{} where a farther one shows again", met.shown_again);
+    assert!(met.touching > 1_500, "{} with a line that touches the road", met.touching);
+}
+
+/// On a straight everything is seen: the farthest distance or the stations left, whichever is less.
+#[test]
+fn straights() {
+    let mut random = Random::new(14);
+    for grade in [-2, -1, 0, 1, 2] {
+        for stations in 1..=40 {
+            let heights: Vec<i32> = (0..stations).map(|station| grade * station).collect();
+            let farthest = random.within(1..=60);
+            let sights = compare_all(&mut random, &heights, look(1, 1, farthest));
+            assert!((0..stations as u32).rev().zip(sights).all(|(left, there)| u32::from(there) == left.min(farthest)));
+        }
+    }
+}
+
+/// Runs of short crests and sags close behind each other: their heights filled by the program, then their sights. The
+/// two wrong look-aheads below would be caught at many of their stations.
+#[test]
+fn random_runs_of_short_crests() {
+    let mut random = Random::new(15);
+    let mut met = Met::default();
+    let (mut missed_by_nearest, mut missed_by_late) = (0, 0);
+    for _ in 0..4_000 {
+        let room = random.within(2..=80);
+        let road = roads::run_of_crests(&mut random, room);
+        let road = roads::gentler(road, random.one_of(&[1, 1, 1, 100]));
+        let heights = program_heights(&road);
+        let look = if random.once_in(4) { look(EYE, OBJECT, 80) } else { any_look(&mut random, 100) };
+        let sights = compare_all(&mut random, &heights, look);
+        met.count(&heights, look, &sights);
+        let (whole, late) = (whole_heights(&heights), heights_read(&road, Turn::AfterTheStation));
+        for (i, &there) in sights.iter().enumerate() {
+            missed_by_nearest += usize::from(sight_over_nearest_curve(&road, &whole, look, i) > usize::from(there));
+            missed_by_late += usize::from(available_sight(&late, look, i) > usize::from(there));
+        }
+    }
+    assert!(met.stations > 100_000, "{} stations", met.stations);
+    assert!(met.hidden > 15_000, "{} with a hidden station ahead", met.hidden);
+    assert!(met.shown_again > 3_000, "{} where a farther one shows again", met.shown_again);
+    assert!(missed_by_nearest > 6_000, "{missed_by_nearest} where the nearest curve alone shows more");
+    assert!(missed_by_late > 4_000, "{missed_by_late} where turning late shows more");
+}
+
+#[test]
+fn longest_list() {
+    let mut random = Random::new(16);
+    let road = roads::longest(&mut random);
+    let heights = program_heights(&road);
+    assert_eq!(heights.len(), 8_001);
+    compare_all(&mut random, &heights, look(EYE, OBJECT, 30));
+    // On a straight everything is seen, up to the greatest of the farthest distances.
+    let straight: Vec<i32> = (0..8_001).map(|station| 90_000_000 - 1_500 * station).collect();
+    for (station, sight) in [(0, 8_000), (1, 7_999), (7_999, 1), (8_000, 0)] {
+        assert_eq!(compare_sight(&straight, station, look(1, 1, 8_000)), sight);
+    }
+}
+
+#[test]
+fn refusals_at_each_edge() {
+    let mut random = Random::new(17);
+    let flat = [0; 8_002];
+    let good = look(EYE, OBJECT, 10);
+    for (stations, answer) in [(0, -19), (1, 0), (2, 1), (8_001, 10), (8_002, -19)] {
+        assert_eq!(compare_sight(&flat[..stations], 0, good), answer, "{stations} stations");
+        let filled = if answer < 0 { answer } else { stations as i32 };
+        assert_eq!(compare_profile(&mut random, &flat[..stations], good, 8_002).0, filled, "{stations} stations");
+    }
+    let heights = &flat[..50];
+    for (station, answer) in [(0, 10), (48, 1), (49, 0), (50, -20), (8_001, -20), (65_536, -20), (u32::MAX, -20)] {
+        assert_eq!(compare_sight(heights, station, good), answer, "station {station}");
+    }
+    for (height, accepted) in
+        [(0, false), (1, true), (50_000, true), (50_001, false), (65_537, false), (u32::MAX, false)]
+    {
+        for look in [Look { eye: height, ..good }, Look { object: height, ..good }] {
+            assert_eq!(compare_sight(heights, 0, look), if accepted { 10 } else { -17 }, "{look:?}");
+            let filled = compare_profile(&mut random, heights, look, 50).0;
+            assert_eq!(filled, if accepted { 50 } else { -17 }, "{look:?}");
+        }
+    }
+    let distances = [(0, -21), (1, 1), (49, 49), (50, 49), (8_000, 49), (8_001, -21), (65_537, -21), (u32::MAX, -21)];
+    for (farthest, answer) in distances {
+        let look = Look { farthest, ..good };
+        assert_eq!(compare_sight(heights, 0, look), answer, "{look:?}");
+        let filled = if answer < 0 { answer } else { 50 };
+        assert_eq!(compare_profile(&mut random, heights, look, 50).0, filled, "{look:?}");
+    }
+    for (places, answer) in [(0, -14), (49, -14), (50, 50), (51, 50)] {
+        assert_eq!(compare_profile(&mut random, heights, good, places).0, answer, "{places} places");
+    }
+}
+
+/// With more than one fault the first of 19, 20, 17, 21 decides for one station, and of 19, 17, 21, 14 for the profile.
+#[test]
+fn refusals_in_order() {
+    let mut random = Random::new(18);
+    let (mut of_station, mut of_profile) = (Tally::default(), Tally::default());
+    for faults in 0..16 {
+        let has = |fault: u32| faults >> fault & 1 == 1;
+        let first = |order: [i32; 4], good: i32| (0..).zip(order).find(|&(at, _)| has(at)).map_or(good, |(_, at)| -at);
+        let heights = vec![0; if has(0) { random.one_of(&[0, 8_002]) } else { 20 }];
+        let bad = random.one_of(&[0, 50_001]);
+
+        let (eye, object) = random.one_of(&[(bad, 1), (1, bad), (bad, bad)]);
+        let look = |heights_bad: bool, distance_bad: bool| Look {
+            eye: if heights_bad { eye } else { EYE },
+            object: if heights_bad { object } else { OBJECT },
+            farthest: if distance_bad { bad } else { 5 },
+        };
+        let answer = compare_sight(&heights, if has(1) { 9_000 } else { 0 }, look(has(2), has(3)));
+        assert_eq!(answer, first([19, 20, 17, 21], 5));
+        of_station.count(answer);
+
+        let places = if has(3) { 19 } else { 20 };
+        let (answer, _) = compare_profile(&mut random, &heights, look(has(1), has(2)), places);
+        assert_eq!(answer, first([19, 17, 21, 14], 20));
+        of_profile.count(answer);
+    }
+    assert_eq!([19, 20, 17, 21].map(|refusal| of_station.refused(refusal)), [8, 4, 2, 1]);
+    assert_eq!([19, 17, 21, 14].map(|refusal| of_profile.refused(refusal)), [8, 4, 2, 1]);
+}
+
+/// The accuracy rule: the program's sight lies between the sight on the exact profile with eye and object each a tenth
+/// of a millimetre lower, and with each as much higher.
+#[test]
+fn accuracy_rule() {
+    let mut random = Random::new(19);
+    let (mut stations, mut rounding_tells, mut below, mut above) = (0, 0, 0, 0);
+    for _ in 0..2_000 {
+        let room = random.within(2..=60);
+        let road = match random.within(0..=3) {
+            0 => roads::one_curve(&mut random, room),
+            1 => roads::sparse(&mut random, room),
+            _ => roads::run_of_crests(&mut random, room),
+        };
+        let road = roads::gentler(road, random.one_of(&[1, 10, 100, 100]));
+        let eye = random.one_of(&[1, 2, 5, 50, 500, EYE, 50_000]);
+        let object = random.one_of(&[1, 2, 5, 50, 500, OBJECT, 50_000]);
+        let look = look(eye, object, random.one_of(&[60, 60, 20, 8_000]));
+        let mut sights = vec![0; road.length as usize + 1];
+        assert_eq!(probe::profile(&program_heights(&road), look, &mut sights), road.length as i32 + 1);
+        let exact = exact_heights(&road);
+        let lower = Look { eye: eye - 1, object: object - 1, ..look };
+        let higher = Look { eye: eye + 1, object: object + 1, ..look };
+        for (i, &there) in sights.iter().enumerate() {
+            let there = usize::from(there);
+            let least = available_sight(&exact, lower, i);
+            let most = available_sight(&exact, higher, i);
+            assert!(least <= there && there <= most, "{least}, {there}, {most} from {i}, {look:?}, {road:?}");
+            stations += 1;
+            rounding_tells += usize::from(there != available_sight(&exact, look, i));
+            below += usize::from(least < there);
+            above += usize::from(there < most);
+        }
+    }
+    assert!(stations > 30_000, "{stations} stations");
+    assert!(rounding_tells > 200, "{rounding_tells} where the rounding of heights changes the sight");
+    assert!(below > 1_000 && above > 1_000, "{below} above the lower bound, {above} below the upper bound");
+}
+
+/// The sight of a look-ahead that tests the line against one curve only, the nearest that does not end before the
+/// station.
+fn sight_over_nearest_curve<H: Height>(road: &Road, heights: &[H], look: Look, i: usize) -> usize {
+    let nearest = road.curves.iter().find(|curve| curve.end() > i as i64);
+    let on_nearest = |&k: &usize| nearest.is_some_and(|curve| (curve.begin()..=curve.end()).contains(&(k as i64)));
+    let seen = |&j: &usize| (i + 1..j).filter(on_nearest).all(|k| clears(heights, look, i, k, j));
+    ahead(heights, look, i).take_while(seen).count()
+}
+
+/// A straight or a curve of the profile: where it begins and ends, its height and grade there, and by how much the
+/// grade changes over it.
+struct Piece {
+    begin: i64,
+    end: i64,
+    height: i64,
+    grade: i64,
+    turn: i64,
+}
+
+impl Piece {
+    fn height_at(&self, station: i64) -> i64 {
+        let (d, twice) = (station - self.begin, 2 * (self.end - self.begin));
+        self.height + self.grade * d + (self.turn * d * d).div_euclid(twice)
+    }
+}
+
+/// The straights and curves of a road, without those of length 0.
+fn pieces(road: &Road) -> Vec<Piece> {
+    let mut pieces = Vec::new();
+    let (mut begin, mut height, mut grade) = (0, i64::from(road.start_height), i64::from(road.first_grade));
+    let mut run = |end: i64, grade_out: Option<i16>| {
+        let turn = grade_out.map_or(0, |grade_out| i64::from(grade_out) - grade);
+        if end > begin {
+            let piece = Piece { begin, end, height, grade, turn };
+            height = piece.height_at(end);
+            begin = end;
+            pieces.push(piece);
+        }
+        grade += turn;
+    };
+    for curve in &road.curves {
+        run(curve.begin(), None);
+        run(curve.end(), Some(curve.grade_out));
+    }
+    run(road.length.into(), None);
+    pieces
+}
+
+/// When a look-ahead that walks along the road turns to the next straight or curve.
+#[derive(Clone, Copy)]
+enum Turn {
+    BeforeTheStation,
+    AfterTheStation,
+}
+
+/// The heights as the look-ahead reads them. One that turns only after a station has been read is a metre late: just
+/// behind a curve it still reads the curve passed.
+fn heights_read(road: &Road, turn: Turn) -> Vec<i64> {
+    let pieces = pieces(road);
+    let mut on = 0;
+    let mut heights = Vec::new();
+    for station in 0..=road.length.into() {
+        let behind = |piece: &Piece| station > piece.end;
+        match turn {
+            Turn::BeforeTheStation => {
+                on += usize::from(behind(&pieces[on]));
+                heights.push(pieces[on].height_at(station));
+            }
+            Turn::AfterTheStation => {
+                heights.push(pieces[on].height_at(station));
+                on += usize::from(behind(&pieces[on]));
+            }
+        }
+    }
+    heights
+}
+
+/// The fault that once was: behind a short crest the look-ahead still read the curve just passed. On this run of three
+/// short crests, each touching the one before, a driver at 90 km/h needs 160 m. At station 194 the third crest hides
+/// what stands beyond 153 m. A look-ahead that tests the nearest curve only says clear, and so does one that turns to
+/// the next curve a metre late: it reads station 203, on the third crest, as if the second crest went on.
+#[test]
+fn hump_behind_a_short_crest() {
+    let crest = |pvi: u32, grade_out: i16| Curve { pvi, length: 2, grade_out };
+    let road = Road {
+        speed: 90,
+        purpose: 1,
+        length: 400,
+        start_height: 0,
+        first_grade: 1_500,
+        curves: vec![crest(199, 700), crest(201, -200), crest(203, -300)],
+    };
+    let required = required_distance(road.speed.into(), 0).expect("the speed is accepted");
+    assert_eq!(required, 160);
+    let look = look(EYE, OBJECT, required);
+    let station = 194;
+
+    let heights = program_heights(&road);
+    let stored: Vec<i32> = (0..=road.length).map(|station| stored_height(&road, station)).collect();
+    assert_eq!(heights, stored);
+    let whole = whole_heights(&stored);
+    assert_eq!(heights_read(&road, Turn::BeforeTheStation), whole, "only the late turn is at fault");
+    let late = heights_read(&road, Turn::AfterTheStation);
+
+    // Both wrong look-aheads say clear.
+    assert_eq!(sight_over_nearest_curve(&road, &whole, look, station), 160);
+    assert_eq!(available_sight(&late, look, station), 160);
+    // It is not clear, and only station 203 is in the way.
+    assert_eq!(compare_sight(&heights, station as u32, look), 153);
+    assert_eq!(compare_all(&mut Random::new(20), &heights, look)[station], 153);
+    for j in station + 1..=station + 160 {
+        let in_the_way: Vec<usize> = (station + 1..j).filter(|&k| !clears(&whole, look, station, k, j)).collect();
+        assert_eq!(in_the_way, if j <= station + 153 { vec![] } else { vec![203] }, "object at {j}");
+    }
+    assert!(late[203] < whole[203]);
+}
+
+/// The walk over straights and curves that the late look-ahead is a slip of gives the stored heights.
+#[test]
+fn turning_in_time_reads_the_stored_heights() {
+    let mut random = Random::new(21);
+    let mut late = 0;
+    for _ in 0..2_000 {
+        let room = random.within(2..=200);
+        let road = roads::run_of_crests(&mut random, room);
+        let whole = whole_heights(&program_heights(&road));
+        assert_eq!(heights_read(&road, Turn::BeforeTheStation), whole, "{road:?}");
+        late += usize::from(heights_read(&road, Turn::AfterTheStation) != whole);
+    }
+    assert!(late > 1_500, "{late} roads where turning late reads another height");
+}
