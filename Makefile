@@ -5,7 +5,11 @@ SHELL := /bin/bash
 .SHELLFLAGS := -euo pipefail -c
 .ONESHELL:
 .SILENT:
-.PHONY: test tools fmt clean
+.DELETE_ON_ERROR:
+.PHONY: test list listable bench tools fmt clean
+
+# The road file that `make list` lists.
+ROAD ?= roads/three-crests.vcp
 
 # Proves every crate from nothing, tries every must-fail edit and runs the programs; then links the proved functions into
 # the Rust tests and runs them. Where all went well the last line repeats that of `rt ci`.
@@ -14,9 +18,41 @@ test: tools
 	log=$$(mktemp)
 	trap 'rm -f "$$log"' EXIT
 	rt ci | tee "$$log"
-	rt staticlib van
+	$(call library,van)
+	$(call library,probe)
 	(cd tests && cargo test --release --offline --quiet)
 	tail -n 1 "$$log"
+
+# Lists a road file, with the lister as it was last proved and built.
+list: listable target/bin/lister
+	target/bin/lister < "$(ROAD)"
+
+listable:
+	$(call need,[ -f "$(ROAD)" ],$(ROAD) is not a file: make list ROAD=file)
+
+target/bin/lister: crates.txt $(shell find crates -type f)
+	$(call need,command -v rt,rt is not on the path: install $(KIT))
+	log=$$(mktemp)
+	trap 'rm -f "$$log"' EXIT
+	echo "proving and building the lister: some minutes, once" >&2
+	rt check lister >"$$log" 2>&1 || { tail -n 20 "$$log"; exit 1; }
+	touch $@
+
+# Times the proved functions beside the same calculations in safe Rust and beside the literal rule, and prints one table.
+# It takes a minute or two. Libraries that are there are measured as they are.
+bench: tools target/staticlib/libvan.a target/staticlib/libprobe.a
+	cd tests
+	cargo run --profile bench-run --offline --quiet --bin bench
+
+target/staticlib/lib%.a: | tools
+	$(call library,$*)
+
+# $(call library,CRATE): the static library of a crate. Each function begins on a 64-byte line, since the speed of a loop
+# depends on where it stands in such lines, and a linker would choose that anew for each program.
+define library
+rt staticlib $1
+objcopy --set-section-alignment '.text*=64' target/staticlib/lib$1.a
+endef
 
 # $(call need,TEST,MESSAGE): where the shell's test fails, make stops with the message.
 need = $(if $(shell ($1) >/dev/null 2>&1 && echo holds),,$(error $2))
@@ -25,6 +61,7 @@ tools:
 	$(call need,command -v rt,rt is not on the path: install $(KIT))
 	$(call need,[ "$$(rt version)" = "$(KIT)" ],rt is of another kit: install $(KIT))
 	$(call need,command -v cargo,cargo is not on the path: install Rust for the tests)
+	$(call need,command -v objcopy,objcopy is not on the path: install binutils)
 
 fmt:
 	rt fmt
