@@ -50,14 +50,15 @@ module _ (marks list : List ℕ) (b : ℕ) (bit : b ≤ lastBit) (some : 0 < len
   zones-lines count ends e p =
       let n = length marks in
       let all = zoneEnds marks b n in
+      let size = 2 * zoneCount marks b n in
       let same : count ≡ zoneCount marks b n = cc zones-number in
       let room = zones-at-most marks b n in
-      let left : ends ≡ filled (λ k. getD all k 0) 0 (2 * zoneCount marks b n) list = rw zones-number at p in
-      let each : (j : ℕ) → j < 2 * zoneCount marks b n → getD ends j 0 ≡ getD all j 0 =
-      λ j l. rw left (filled-at _ 0 (2 * zoneCount marks b n) list j 0 (omega arith) (omega arith) (omega arith)) in
+      let left : ends ≡ filled (λ k. getD all k 0) 0 size list = rw zones-number at p in
+      let each : (j : ℕ) → j < size → getD ends j 0 ≡ getD all j 0 =
+      λ j l. rw left (filled-at _ 0 size list j 0 (omega arith) (omega arith) (omega arith)) in
       rw same (
         joined-cong _ _ (zoneCount marks b n) (λ k l. rw (each (2 * k) (omega arith), each (2 * k + 1) (omega arith)) refl),
-        omega (arith, ap length left ∙ filled-length _ 0 (2 * zoneCount marks b n) list),
+        omega (arith, ap length left ∙ filled-length _ 0 size list),
       )
 
 -- ---- marks

@@ -80,7 +80,8 @@ first-at-most : (speed stopping decision : ℕ) → speed < 1000 → length (fir
 unfolding firstLine
 first-at-most speed stopping decision h =
     let v = version-length in
-    simp length-append (omega (arith, small-item-at-most speed space h, item-at-most stopping space, item-at-most decision lineFeed))
+    let s = small-item-at-most speed space h in
+    simp length-append (omega (arith, item-at-most stopping space, item-at-most decision lineFeed))
 
 zone-at-most : (letter first last : ℕ) → length (zoneLine letter first last) ≤ 14
 unfolding zoneLine
@@ -92,7 +93,8 @@ module _ (marks : List ℕ) (h : length marks ≤ greatestList) where
   unfolding bitLines
   bit-at-most b =
       let n = length marks in
-      let line : ℕ → List ℕ = λ k. zoneLine (getD letters b 0) (getD (zoneEnds marks b n) (2 * k) 0) (getD (zoneEnds marks b n) (2 * k + 1) 0) in
+      let ends = zoneEnds marks b n in
+      let line : ℕ → List ℕ = λ k. zoneLine (getD letters b 0) (getD ends (2 * k) 0) (getD ends (2 * k + 1) 0) in
       omega (arith, joined-at-most line 14 (zoneCount marks b n) (λ k. zone-at-most _ _ _), zones-at-most marks b n)
 
   zones-text-at-most : length (zonesText marks) ≤ 14 * 4001 * (lastBit + 1)
@@ -103,12 +105,13 @@ written-length : (f : ℕ → ℕ) (a : Answer) (xs : List ℕ) → length (writ
 written-length f (Number n) xs = filled-length f 0 n xs
 written-length f (Refused k) xs = refl
 
-pub own-marks-length : (file : List ℕ) → length (ownMarks file) ≡ roadIn file .length + 1
+own-marks-length : (file : List ℕ) → length (ownMarks file) ≡ roadIn file .length + 1
 unfolding ownMarks markFileList
 own-marks-length file =
     let r = roadIn file in
     let none : List ℕ = replicate (r .length + 1) 0 in
-    written-length (markFor (r .speed) (r .purpose) (ownHeights r)) (markFileAnswer file none) none ∙ length-replicate {A = ℕ} (r .length + 1) 0
+    written-length (markFor (r .speed) (r .purpose) (ownHeights r)) (markFileAnswer file none) none
+    ∙ length-replicate {A = ℕ} (r .length + 1) 0
 
 lines-at-most : (speed purpose : ℕ) (marks : List ℕ) → speed < 1000 → length marks ≤ greatestList →
     length (linesFor speed purpose marks) ≤ greatestListing
@@ -124,7 +127,8 @@ listing-at-most file = go (readVerdict file) refl
     go : (v : Verdict) → readVerdict file ≡ v → length (textFor v file) ≤ greatestListing
     go Accepted e =
         let sound = accepted-road (roadIn file) (accepted-file file e .road) in
-        lines-at-most _ _ (ownMarks file) (omega (arith, sound .speed-high)) (omega (arith, sound .length-high, own-marks-length file))
+        let marks = own-marks-length file in
+        lines-at-most _ _ (ownMarks file) (omega (arith, sound .speed-high)) (omega (arith, sound .length-high))
     go (Fault k) e = omega (arith, refused-at-most k)
 
 -- what is answered is within the buffer

@@ -1,9 +1,8 @@
 -- `main` is safe: what `list_road` answers is at most the length of the text (`list-answer-fits`).
-use Prim.Native.Nat.{_≤_}
+use Prim.Native.Nat.{ℕ, _≤_}
 use mathlib.Core.Path.{sym, _∙_}
 use borrow.Author.Needs.{needs}
-use native.Mathlib.Omega.{arith}
-use lib.ListN.{length}
+use lib.ListN.{length, length-replicate}
 use lib.Seq.{length-take-le}
 use Rattle.listing.proofs.Longest.{list-answer-fits}
 use Rattle.lister.proofs.main.Statement.{statement}
@@ -13,7 +12,7 @@ fits : (c : tie.After-known-told) → c .before .length .given .0 .0 ≤ length 
 fits c =
     let l = c .before .before .before .before in
     let n = list-answer-fits _ _ _ (sym (c .before .length .given .1) ∙ l .list-road .ensures .0) in
-    omega (arith, l .list-road .kept .1 .0)
+    rw (l .list-road .kept .1 .0) n
 
 slice-aggregate-read-full : tie.Need-slice-aggregate-read-full
 slice-aggregate-read-full c = search needs
@@ -28,7 +27,7 @@ slice-aggregate-list-road : tie.Need-slice-aggregate-list-road
 slice-aggregate-list-road c = search needs
 
 slice-aggregate-list-road-2 : tie.Need-slice-aggregate-list-road-2
-slice-aggregate-list-road-2 c = search needs
+slice-aggregate-list-road-2 c = sym (length-replicate {A = ℕ} _ 0)
 
 list-road-requires : tie.Need-list-road-requires
 list-road-requires c κs = search needs

@@ -18,14 +18,17 @@ returns : tie.Need-returns
 unfolding listAnswer listBuffer
 returns c =
     let a = c .before .before .before .args in
-    written-refused _ (listAnswer (a .file .now) (a .text .now)) (a .text .now) roomRefused (rw (lt-ltb (length (a .text .now)) greatestListing (omega arith)) refl)
+    written-refused _ (listAnswer (a .file .now) (a .text .now)) (a .text .now) roomRefused
+    (rw (lt-ltb (length (a .text .now)) greatestListing (omega arith)) refl)
 
 write-listing-requires : tie.Need-write-listing-requires
 write-listing-requires c κs = record { fits = omega (arith, listing-at-most (c .before .before .before .before .args .file .now)) }
 
 cast-t7 : tie.Need-cast-t7
 cast-t7 c =
-    let w = c .before .before in omega (arith, w .write-listing .ensures .behind, listing-at-most (w .before .before .before .before .before .args .file .now))
+    let w = c .before .before in
+    let most = listing-at-most (w .before .before .before .before .before .args .file .now) in
+    omega (arith, w .write-listing .ensures .behind)
 
 same-length : tie.Need-same-length
 same-length c = search needs

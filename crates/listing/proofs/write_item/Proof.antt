@@ -11,14 +11,18 @@ write-decimal-requires c κs = room-first _ _ (c .before .before .pre)
 
 write-byte-requires : tie.Need-write-byte-requires
 unfolding item
-write-byte-requires c κs = let w = c .before .before .before in room-next _ (w .before .before .before .pre) (w .write-decimal .ensures)
+write-byte-requires c κs =
+    let w = c .before .before .before in
+    room-next _ (w .before .before .before .pre) (w .write-decimal .ensures)
 
 same-length : tie.Need-same-length
 same-length c = search needs
 
 returns : tie.Need-returns
 unfolding item
-returns c = let w = c .before .before in wrote-join (w .before .before .before .before .write-decimal .ensures) (w .write-byte .ensures)
+returns c =
+    let v = c .before .before in
+    wrote-join (v .before .before .before .before .write-decimal .ensures) (v .write-byte .ensures)
 
 pub write-item-spec : {M : Type 1} → statement M
 write-item-spec =

@@ -11,11 +11,13 @@ use Rattle.listing.proofs.write_lines.Statement.{statement}
 use Rattle.listing.proofs.write_lines.Tie as tie
 
 -- the distances
-stopping-is : (c : tie.After-metres-of) → c .metres-of .result ≡ metres (requiredDistance (c .before .before .before .before .args .speed) 0)
+stopping-is : (c : tie.After-metres-of) →
+    c .metres-of .result ≡ metres (requiredDistance (c .before .before .before .before .args .speed) 0)
 stopping-is c = c .metres-of .ensures ∙ ap metres (c .before .required-distance .ensures)
 
 decision-is : (c : tie.After-metres-of2) →
-    let a = c .before .before .before .before .before .before .args in c .metres-of2 .result ≡ metres (requiredDistance (a .speed) (a .purpose))
+    let a = c .before .before .before .before .before .before .args in
+    c .metres-of2 .result ≡ metres (requiredDistance (a .speed) (a .purpose))
 decision-is c = c .metres-of2 .ensures ∙ ap metres (c .before .required-distance2 .ensures)
 
 -- the first line was written
@@ -43,12 +45,14 @@ write-first-requires : tie.Need-write-first-requires
 unfolding linesFor
 write-first-requires c κs =
     let m = c .before in
-    rw (stopping-is (m .before .before), decision-is m) (room-first _ _ (m .before .before .before .before .before .before .pre .0))
+    let room = room-first _ _ (m .before .before .before .before .before .before .pre .0) in
+    rw (stopping-is (m .before .before), decision-is m) room
 
 write-bits-requires : tie.Need-write-bits-requires
 unfolding linesFor
 write-bits-requires c κs =
-    let w = c .before .before .before in (room-next _ (w .before .before .before .before .before .before .before .before .pre .0) (first w), omega arith)
+    let w = c .before .before .before in
+    (room-next _ (w .before .before .before .before .before .before .before .before .pre .0) (first w), omega arith)
 
 same-length : tie.Need-same-length
 same-length c = search needs
@@ -56,7 +60,8 @@ same-length c = search needs
 returns : tie.Need-returns
 unfolding linesFor
 returns c =
-    let v = c .before .before in wrote-join (first (v .before .before .before .before)) (v .write-bits .ensures)
+    let v = c .before .before in
+    wrote-join (first (v .before .before .before .before)) (v .write-bits .ensures)
 
 pub write-lines-spec : {M : Type 1} → statement M
 write-lines-spec =

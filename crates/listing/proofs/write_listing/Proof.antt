@@ -35,13 +35,15 @@ verdict-is : (c : tie.After-read) → c .read .result .verdict ≡ readVerdict (
 unfolding readRoad
 verdict-is c = ap (λ (r : ReadRoad). r .verdict) (c .read .ensures)
 
-refused : (c : tie.After-verdict) → listing (c .before .before .before .before .before .args .file .now) ≡ refusedLine (c .verdict .given .0 .0)
+refused : (c : tie.After-verdict) →
+    listing (c .before .before .before .before .before .args .file .now) ≡ refusedLine (c .verdict .given .0 .0)
 refused c = listing-refused _ _ (sym (verdict-is (c .before .before)) ∙ c .verdict .given .1)
 
 accepted : (c : tie.After-enum-told) → readVerdict (c .before .before .before .before .before .args .file .now) ≡ Accepted
 accepted c = sym (verdict-is (c .before .before)) ∙ c .enum-told .given .1
 
-road-is : (c : tie.After-enum-told) → c .before .before .read .result .road ≡ roadIn (c .before .before .before .before .before .args .file .now)
+road-is : (c : tie.After-enum-told) →
+    c .before .before .read .result .road ≡ roadIn (c .before .before .before .before .before .args .file .now)
 road-is c = ap (λ (r : ReadRoad). r .road) (c .before .before .read .ensures ∙ read-accepted _ (accepted c))
 
 sound : (c : tie.After-enum-told) → SoundRoad (c .before .before .read .result .road)
@@ -54,12 +56,14 @@ room : (c : tie.After-mark-road-file) →
 room c = omega (arith, c .mark-road-file .kept .1 .0, sound (c .before .before .before) .length-high)
 
 front-length : (c : tie.After-mark-road-file) →
-    let n = c .before .before .before .before .before .read .result .road .length + 1 in length (take n (c .mark-road-file .last .1 .0)) ≡ n
+    let n = c .before .before .before .before .before .read .result .road .length + 1 in
+    length (take n (c .mark-road-file .last .1 .0)) ≡ n
 front-length c = length-take-le _ _ (room c)
 
 own : (c : tie.After-mark-road-file) →
     let r = c .before .before .before .before .before .read .result .road in
-    take (r .length + 1) (c .mark-road-file .last .1 .0) ≡ ownMarks (c .before .before .before .before .before .before .before .before .args .file .now)
+    let file = c .before .before .before .before .before .before .before .before .args .file .now in
+    take (r .length + 1) (c .mark-road-file .last .1 .0) ≡ ownMarks file
 own c =
     let t = c .before .before .before in
     let n = ap (λ (r : Road). r .length + 1) (road-is t) in
@@ -68,7 +72,8 @@ own c =
 
 lines : (c : tie.After-mark-road-file) →
     let r = c .before .before .before .before .before .read .result .road in
-    linesFor (r .speed) (r .purpose) (take (r .length + 1) (c .mark-road-file .last .1 .0)) ≡ listing (c .before .before .before .before .before .before .before .before .args .file .now)
+    let file = c .before .before .before .before .before .before .before .before .args .file .now in
+    linesFor (r .speed) (r .purpose) (take (r .length + 1) (c .mark-road-file .last .1 .0)) ≡ listing file
 lines c = let t = c .before .before .before in rw (own c) (listing-road _ _ (accepted t) (road-is t))
 
 read-requires : tie.Need-read-requires
@@ -82,14 +87,16 @@ cast-write-refused c = search needs
 
 write-refused-requires : tie.Need-write-refused-requires
 write-refused-requires c κs =
-    let v = c .before .before in rw (refused v) at (v .before .before .before .before .before .pre)
+    let v = c .before .before in
+    rw (refused v) at (v .before .before .before .before .before .pre)
 
 same-length : tie.Need-same-length
 same-length c = search needs
 
 returns : tie.Need-returns
 returns c =
-    let w = c .before .before in rw (refused (w .before .before .before)) (w .write-refused .ensures)
+    let w = c .before .before in
+    rw (refused (w .before .before .before)) (w .write-refused .ensures)
 
 enum-told : tie.Need-enum-told
 enum-told c = search needs
@@ -121,14 +128,17 @@ slice-aggregate-write-lines c = sym (front-length (c .before .before .before .be
 write-lines-requires : tie.Need-write-lines-requires
 write-lines-requires c κs =
     let m = c .before .before .before .before .before .before in
-    (rw (lines m) (m .before .before .before .before .before .before .before .before .pre), omega (arith, front-length m, sound (m .before .before .before) .length-high))
+    let long = front-length m in
+    let road = sound (m .before .before .before) in
+    (rw (lines m) (m .before .before .before .before .before .before .before .before .pre), omega arith)
 
 same-length-2 : tie.Need-same-length-2
 same-length-2 c = search needs
 
 returns-2 : tie.Need-returns-2
 returns-2 c =
-    let w = c .before .before in rw (lines (w .before .before .before .before .before .before .before)) at (w .write-lines .ensures)
+    let w = c .before .before in
+    rw (lines (w .before .before .before .before .before .before .before)) at (w .write-lines .ensures)
 
 pub write-listing-spec : {M : Type 1} → statement M
 write-listing-spec =

@@ -16,7 +16,8 @@ write-word-requires c κs = room-first (114 ∷ 101 ∷ 102 ∷ 117 ∷ 115 ∷ 
 write-item-requires : tie.Need-write-item-requires
 unfolding refusedLine
 write-item-requires c κs =
-    let w = c .before .before .before in room-next _ (w .before .before .before .before .pre) (w .write-word .ensures)
+    let w = c .before .before .before in
+    room-next _ (w .before .before .before .before .pre) (w .write-word .ensures)
 
 same-length : tie.Need-same-length
 same-length c = search needs
@@ -24,7 +25,8 @@ same-length c = search needs
 returns : tie.Need-returns
 unfolding refusedLine
 returns c =
-    let v = c .before .before in wrote-join (v .before .before .before .before .write-word .ensures) (v .write-item .ensures)
+    let v = c .before .before in
+    wrote-join (v .before .before .before .before .write-word .ensures) (v .write-item .ensures)
 
 pub write-refused-spec : {M : Type 1} → statement M
 write-refused-spec =

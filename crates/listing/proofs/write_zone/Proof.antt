@@ -13,19 +13,24 @@ write-byte-requires c κs = let s = c .before .before in room-first (s .args .le
 write-byte-requires-2 : tie.Need-write-byte-requires-2
 unfolding zoneLine
 write-byte-requires-2 c κs =
-    let w = c .before .before .before in room-first (space ∷ []) _ (room-next _ (w .before .before .before .pre) (w .write-byte .ensures))
+    let w = c .before .before .before in
+    room-first (space ∷ []) _ (room-next _ (w .before .before .before .pre) (w .write-byte .ensures))
 
 write-item-requires : tie.Need-write-item-requires
 unfolding zoneLine
 write-item-requires c κs =
-    let v = c .before .before .before in let w = v .before .before .before .before in
+    let v = c .before .before .before in
+    let w = v .before .before .before .before in
     room-first _ _ (room-next _ (room-next _ (w .before .before .before .pre) (w .write-byte .ensures)) (v .write-byte2 .ensures))
 
 write-item-requires-2 : tie.Need-write-item-requires-2
 unfolding zoneLine
 write-item-requires-2 c κs =
-    let u = c .before .before .before in let v = u .before .before .before .before in let w = v .before .before .before .before in
-    room-next _ (room-next _ (room-next _ (w .before .before .before .pre) (w .write-byte .ensures)) (v .write-byte2 .ensures)) (u .write-item .ensures)
+    let u = c .before .before .before in
+    let v = u .before .before .before .before in
+    let w = v .before .before .before .before in
+    let room = room-next _ (room-next _ (w .before .before .before .pre) (w .write-byte .ensures)) (v .write-byte2 .ensures) in
+    room-next _ room (u .write-item .ensures)
 
 same-length : tie.Need-same-length
 same-length c = search needs
@@ -33,7 +38,10 @@ same-length c = search needs
 returns : tie.Need-returns
 unfolding zoneLine
 returns c =
-    let t = c .before .before in let u = t .before .before .before .before in let v = u .before .before .before .before in let w = v .before .before .before .before in
+    let t = c .before .before in
+    let u = t .before .before .before .before in
+    let v = u .before .before .before .before in
+    let w = v .before .before .before .before in
     wrote-join (w .write-byte .ensures)
     (wrote-join (v .write-byte2 .ensures) (wrote-join (u .write-item .ensures) (t .write-item2 .ensures)))
 
