@@ -18,8 +18,8 @@ test: tools
 	log=$$(mktemp)
 	trap 'rm -f "$$log"' EXIT
 	rt ci | tee "$$log"
-	$(call library,van)
-	$(call library,probe)
+	rt staticlib van
+	rt staticlib probe
 	(cd tests && cargo test --release --offline --quiet)
 	tail -n 1 "$$log"
 
@@ -45,14 +45,7 @@ bench: tools target/staticlib/libvan.a target/staticlib/libprobe.a
 	cargo run --profile bench-run --offline --quiet --bin bench
 
 target/staticlib/lib%.a: | tools
-	$(call library,$*)
-
-# $(call library,CRATE): the static library of a crate. Each function begins on a 64-byte line, since the speed of a loop
-# depends on where it stands in such lines, and a linker would choose that anew for each program.
-define library
-rt staticlib $1
-objcopy --set-section-alignment '.text*=64' target/staticlib/lib$1.a
-endef
+	rt staticlib $*
 
 # $(call need,TEST,MESSAGE): where the shell's test fails, make stops with the message.
 need = $(if $(shell ($1) >/dev/null 2>&1 && echo holds),,$(error $2))
@@ -61,7 +54,6 @@ tools:
 	$(call need,command -v rt,rt is not on the path: install $(KIT))
 	$(call need,[ "$$(rt version)" = "$(KIT)" ],rt is of another kit: install $(KIT))
 	$(call need,command -v cargo,cargo is not on the path: install Rust for the tests)
-	$(call need,command -v objcopy,objcopy is not on the path: install binutils)
 
 fmt:
 	rt fmt
