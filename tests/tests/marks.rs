@@ -77,7 +77,7 @@ fn example_of_document_01() {
 fn random_runs_of_short_crests() {
     let mut random = Random::new(27);
     let mut bits = Bits::default();
-    for round in 0..42_000 {
+    for round in 0..30_000 {
         // Most are short, so that there can be many.
         let most = if round % 20 == 0 { 150 } else { 24 };
         let room = random.within(2..=most);
@@ -173,7 +173,7 @@ fn longest_road() {
 fn refused_files() {
     let mut random = Random::new(33);
     let mut tally = Tally::default();
-    for _ in 0..60_000 {
+    for _ in 0..75_000 {
         let file = match random.within(0..=2) {
             0 => {
                 let refusal = random.within(1..=13);
