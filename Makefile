@@ -20,7 +20,7 @@ test: tools
 	rt ci | tee "$$log"
 	rt staticlib van
 	rt staticlib probe
-	(cd tests && cargo test --release --offline --quiet)
+	cargo test --workspace --release --offline --quiet
 	tail -n 1 "$$log"
 
 # Lists a road file, with the lister as it was last proved and built.
@@ -41,7 +41,6 @@ target/bin/lister: crates.txt $(shell find crates -type f)
 # Times the proved functions beside the same calculations in safe Rust and beside the literal rule, and prints one table.
 # It takes a minute or two. Libraries that are there are measured as they are.
 bench: tools target/staticlib/libvan.a target/staticlib/libprobe.a
-	cd tests
 	cargo run --profile bench-run --offline --quiet --bin bench
 
 target/staticlib/lib%.a: | tools
@@ -57,7 +56,7 @@ tools:
 
 fmt:
 	rt fmt
-	cd tests && cargo fmt
+	cargo fmt --all
 
 clean:
 	rm -rf target

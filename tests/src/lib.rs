@@ -1,5 +1,9 @@
-//! What the tests share: the proved functions as the van's program and the tests call them, the second calculation that
-//! they are compared with, generators of inputs and a count of answers.
+//! What the tests share: the functions of crate `probe` (those of the van are in the package `vcp`), the second calculation
+//! that the proved functions are compared with, generators of inputs and a count of answers.
+
+use vcp::Refusal;
+
+use crate::reference::Answer;
 
 pub mod probe;
 pub mod quick;
@@ -7,4 +11,8 @@ pub mod random;
 pub mod reference;
 pub mod roads;
 pub mod tally;
-pub mod van;
+
+/// The van's answer as the second calculation gives it, with the bare number of a refusal.
+pub fn bare(answer: Result<u32, Refusal>) -> Answer {
+    answer.map_err(Refusal::number)
+}

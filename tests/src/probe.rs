@@ -1,8 +1,9 @@
-//! The functions of the proved crate `probe`, which hands out to these tests what the van does not call. An answer is a
-//! signed number, and a refusal is minus its number.
+//! The functions of the proved crate `probe`, which hands out to these tests what the van does not call.
 
 use crate::reference::sight::Look;
+use crate::reference::Answer;
 
+// A test compares these declarations with crates/probe/src/lib.rt.
 extern "C" {
     fn probe_rewrite(file: *const u8, file_length: usize, out: *mut u8, out_length: usize) -> i64;
     fn probe_heights(file: *const u8, file_length: usize, heights: *mut i32, heights_length: usize) -> i64;
@@ -25,34 +26,39 @@ extern "C" {
     ) -> i64;
 }
 
-/// These functions answer 64 bits; each answer fits 32.
-fn narrow(answer: i64) -> i32 {
-    i32::try_from(answer).expect("an answer fits 32 bits")
+/// An answer is a signed number, and a refusal is minus its number. These are of 64 bits; each fits 32.
+fn answer(signed: i64) -> Answer {
+    let number = u32::try_from(signed.unsigned_abs()).expect("an answer fits 32 bits");
+    if signed < 0 {
+        Err(number)
+    } else {
+        Ok(number)
+    }
 }
 
 /// Reads a road file and writes its road again: how many bytes were written.
-pub fn rewrite(file: &[u8], out: &mut [u8]) -> i32 {
+pub fn rewrite(file: &[u8], out: &mut [u8]) -> Answer {
     // SAFETY: both pointers come with their own lengths, and the two do not overlap.
-    narrow(unsafe { probe_rewrite(file.as_ptr(), file.len(), out.as_mut_ptr(), out.len()) })
+    answer(unsafe { probe_rewrite(file.as_ptr(), file.len(), out.as_mut_ptr(), out.len()) })
 }
 
 /// Reads a road file and fills the heights of its road: how many were filled.
-pub fn heights(file: &[u8], heights: &mut [i32]) -> i32 {
+pub fn heights(file: &[u8], heights: &mut [i32]) -> Answer {
     // SAFETY: both pointers come with their own lengths, and the two do not overlap.
-    narrow(unsafe { probe_heights(file.as_ptr(), file.len(), heights.as_mut_ptr(), heights.len()) })
+    answer(unsafe { probe_heights(file.as_ptr(), file.len(), heights.as_mut_ptr(), heights.len()) })
 }
 
 /// The sight from one station.
-pub fn sight(heights: &[i32], station: u32, look: Look) -> i32 {
+pub fn sight(heights: &[i32], station: u32, look: Look) -> Answer {
     // SAFETY: the pointer comes with its own length, and nothing is written.
-    narrow(unsafe { probe_sight(heights.as_ptr(), heights.len(), station, look.eye, look.object, look.farthest) })
+    answer(unsafe { probe_sight(heights.as_ptr(), heights.len(), station, look.eye, look.object, look.farthest) })
 }
 
 /// Fills the sight from each station: how many were filled.
-pub fn profile(heights: &[i32], look: Look, sights: &mut [u16]) -> i32 {
+pub fn profile(heights: &[i32], look: Look, sights: &mut [u16]) -> Answer {
     let Look { eye, object, farthest } = look;
     // SAFETY: both pointers come with their own lengths, and the two do not overlap.
-    narrow(unsafe {
+    answer(unsafe {
         probe_profile(heights.as_ptr(), heights.len(), eye, object, farthest, sights.as_mut_ptr(), sights.len())
     })
 }

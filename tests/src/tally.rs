@@ -2,6 +2,8 @@
 
 use std::collections::BTreeMap;
 
+use crate::reference::Answer;
+
 #[derive(Default)]
 pub struct Tally {
     numbers: usize,
@@ -9,12 +11,10 @@ pub struct Tally {
 }
 
 impl Tally {
-    /// Counts an answer in the van's form.
-    pub fn count(&mut self, answer: i32) {
-        if answer < 0 {
-            *self.refusals.entry(answer.unsigned_abs()).or_default() += 1;
-        } else {
-            self.numbers += 1;
+    pub fn count(&mut self, answer: Answer) {
+        match answer {
+            Ok(_) => self.numbers += 1,
+            Err(refusal) => *self.refusals.entry(refusal).or_default() += 1,
         }
     }
 

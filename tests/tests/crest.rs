@@ -1,10 +1,10 @@
 //! Document 01, "How long a crest must be".
 
+use sight_tests::bare;
 use sight_tests::random::Random;
 use sight_tests::reference::crest::{crest_length, Crest};
-use sight_tests::reference::signed;
+use sight_tests::reference::Answer;
 use sight_tests::tally::Tally;
-use sight_tests::van;
 
 /// 1.08 m and 0.60 m (source document 002), in h-units.
 const EYE: u32 = 10_800;
@@ -14,39 +14,41 @@ fn crest(drop: u32, sight: u32, eye: u32, object: u32) -> Crest {
     Crest { drop, sight, eye, object }
 }
 
-fn van_length(crest: Crest) -> i32 {
-    van::crest_length(crest.drop, crest.sight, crest.eye, crest.object)
+fn van_length(crest: Crest) -> Answer {
+    bare(vcp::crest_length(crest.drop, crest.sight, crest.eye, crest.object))
 }
 
 /// The van and the second calculation both give this answer.
-fn expect(crest: Crest, answer: i32) {
+fn expect(crest: Crest, answer: Answer) {
     assert_eq!(van_length(crest), answer, "van, {crest:?}");
-    assert_eq!(signed(crest_length(crest)), answer, "second calculation, {crest:?}");
+    assert_eq!(crest_length(crest), answer, "second calculation, {crest:?}");
 }
 
 /// The van's answer, which is that of the second calculation.
-fn compare(crest: Crest) -> i32 {
+fn compare(crest: Crest) -> Answer {
     let answer = van_length(crest);
-    assert_eq!(answer, signed(crest_length(crest)), "{crest:?}");
+    assert_eq!(answer, crest_length(crest), "{crest:?}");
     answer
 }
 
 #[test]
 fn cases_of_document_01() {
-    for (drop, sight, answer) in [(600, 130, 156), (300, 130, 42), (253, 130, 0), (254, 130, 2), (3_000, 800, -18)] {
+    for (drop, sight, answer) in
+        [(600, 130, Ok(156)), (300, 130, Ok(42)), (253, 130, Ok(0)), (254, 130, Ok(2)), (3_000, 800, Err(18))]
+    {
         expect(crest(drop, sight, EYE, OBJECT), answer);
     }
 }
 
 #[test]
 fn refusals_at_each_edge() {
-    for (drop, answer) in [(0, -15), (1, 0), (3_000, 1_974), (3_001, -15)] {
+    for (drop, answer) in [(0, Err(15)), (1, Ok(0)), (3_000, Ok(1_974)), (3_001, Err(15))] {
         expect(crest(drop, 208, EYE, OBJECT), answer);
     }
-    for (sight, answer) in [(0, -16), (1, 0), (800, 1_558), (801, -16)] {
+    for (sight, answer) in [(0, Err(16)), (1, Ok(0)), (800, Ok(1_558)), (801, Err(16))] {
         expect(crest(160, sight, EYE, OBJECT), answer);
     }
-    for (height, answer) in [(0, -17), (1, 352), (50_000, 0), (50_001, -17)] {
+    for (height, answer) in [(0, Err(17)), (1, Ok(352)), (50_000, Ok(0)), (50_001, Err(17))] {
         expect(crest(300, 120, height, OBJECT), answer);
         expect(crest(300, 120, OBJECT, height), answer);
     }
@@ -57,17 +59,17 @@ fn refusals_at_each_edge() {
 fn refusals_in_order() {
     for (drop, sight) in [(0, 0), (3_001, 801)] {
         for height in [0, 50_001] {
-            expect(crest(drop, sight, height, height), -15);
-            expect(crest(drop, 1, height, 1), -15);
-            expect(crest(3_000, sight, height, height), -16);
-            expect(crest(3_000, sight, 1, height), -16);
-            expect(crest(3_000, 800, height, 1), -17);
-            expect(crest(3_000, 800, 1, height), -17);
+            expect(crest(drop, sight, height, height), Err(15));
+            expect(crest(drop, 1, height, 1), Err(15));
+            expect(crest(3_000, sight, height, height), Err(16));
+            expect(crest(3_000, sight, 1, height), Err(16));
+            expect(crest(3_000, 800, height, 1), Err(17));
+            expect(crest(3_000, 800, 1, height), Err(17));
         }
     }
-    expect(crest(3_001, 800, 1, 1), -15);
-    expect(crest(3_000, 801, 1, 1), -16);
-    expect(crest(3_000, 800, 1, 1), -18);
+    expect(crest(3_001, 800, 1, 1), Err(15));
+    expect(crest(3_000, 801, 1, 1), Err(16));
+    expect(crest(3_000, 800, 1, 1), Err(18));
 }
 
 /// Where S ≤ L, with heights whose root is whole and Q = S² / 2: every even length L is just adequate for a = L / 2,
@@ -78,15 +80,15 @@ fn just_adequate_where_the_sight_is_within_the_curve() {
     for (sight, eye, object) in [(400, 10_000, 10_000), (600, 40_000, 10_000), (240, 8_100, 900)] {
         for (eye, object) in [(eye, object), (object, eye)] {
             for drop in sight / 2..=1_000 {
-                let length = 2 * drop as i32;
-                let longer = if drop < 1_000 { length + 2 } else { -18 };
+                let length = Ok(2 * drop);
+                let longer = if drop < 1_000 { Ok(2 * drop + 2) } else { Err(18) };
                 expect(crest(drop, sight, eye, object), length);
                 expect(crest(drop, sight, eye - 1, object), longer);
                 expect(crest(drop, sight, eye, object - 1), longer);
                 expect(crest(drop, sight, eye + 1, object), length);
                 expect(crest(drop, sight, eye, object + 1), length);
             }
-            expect(crest(1_001, sight, eye, object), -18);
+            expect(crest(1_001, sight, eye, object), Err(18));
         }
     }
 }
@@ -100,19 +102,19 @@ fn just_adequate_where_the_sight_is_beyond_the_curve() {
     for (drop, eye, object) in [(200, 10_000, 10_000), (90, 3_600, 900), (120, 8_100, 900)] {
         for (eye, object) in [(eye, object), (object, eye)] {
             for sight in drop + 1..2 * drop {
-                let length = 2 * (sight - drop) as i32;
-                expect(crest(drop, sight, eye, object), length);
-                expect(crest(drop + 1, sight, eye, object), length + 2);
-                expect(crest(drop - 1, sight, eye, object), length - 2);
-                expect(crest(drop, sight, eye - 1, object), length + 2);
-                expect(crest(drop, sight, eye, object - 1), length + 2);
-                expect(crest(drop, sight, eye + 1, object), length);
-                expect(crest(drop, sight, eye, object + 1), length);
+                let length = 2 * (sight - drop);
+                expect(crest(drop, sight, eye, object), Ok(length));
+                expect(crest(drop + 1, sight, eye, object), Ok(length + 2));
+                expect(crest(drop - 1, sight, eye, object), Ok(length - 2));
+                expect(crest(drop, sight, eye - 1, object), Ok(length + 2));
+                expect(crest(drop, sight, eye, object - 1), Ok(length + 2));
+                expect(crest(drop, sight, eye + 1, object), Ok(length));
+                expect(crest(drop, sight, eye, object + 1), Ok(length));
             }
-            expect(crest(drop, drop, eye, object), 0);
-            expect(crest(drop + 1, drop, eye, object), 2);
-            expect(crest(drop, drop, eye - 1, object), 2);
-            expect(crest(drop, drop, eye, object - 1), 2);
+            expect(crest(drop, drop, eye, object), Ok(0));
+            expect(crest(drop + 1, drop, eye, object), Ok(2));
+            expect(crest(drop, drop, eye - 1, object), Ok(2));
+            expect(crest(drop, drop, eye, object - 1), Ok(2));
         }
     }
 }
@@ -122,11 +124,11 @@ fn just_adequate_where_the_sight_is_beyond_the_curve() {
 fn odd_lengths_are_passed_over() {
     // Q = 80,000 = 128 × 625, so the least adequate length is 2S − 625.
     for sight in 313..625 {
-        expect(crest(128, sight, 10_000, 10_000), 2 * sight as i32 - 624);
+        expect(crest(128, sight, 10_000, 10_000), Ok(2 * sight - 624));
     }
     // Q = 80,000 and S = 200, so the least adequate length is a / 2.
     for drop in (402..=2_998).step_by(4) {
-        expect(crest(drop, 200, 10_000, 10_000), drop as i32 / 2 + 1);
+        expect(crest(drop, 200, 10_000, 10_000), Ok(drop / 2 + 1));
     }
 }
 
@@ -139,13 +141,13 @@ fn lengths_of_the_aashto_equations() {
         for sight in (1..=800).step_by(3) {
             let (a, s) = (i64::from(drop), i64::from(sight));
             let tenths = if a * s >= 65_800 { 10 * a * s * s / 65_800 } else { 20 * s - 658_000 / a };
-            let answer = van::crest_length(drop, sight, EYE, OBJECT);
+            let answer = van_length(crest(drop, sight, EYE, OBJECT));
             let (agrees, kind) = match answer {
-                -18 => (tenths >= 19_999, &mut refused),
-                0 => (tenths <= 1, &mut none),
-                length => ((-1..=21).contains(&(10 * i64::from(length) - tenths)), &mut lengths),
+                Err(refusal) => (refusal == 18 && tenths >= 19_999, &mut refused),
+                Ok(0) => (tenths <= 1, &mut none),
+                Ok(length) => ((-1..=21).contains(&(10 * i64::from(length) - tenths)), &mut lengths),
             };
-            assert!(agrees, "drop {drop}, sight {sight}: van {answer}, equations {tenths} tenths of a metre");
+            assert!(agrees, "drop {drop}, sight {sight}: van {answer:?}, equations {tenths} tenths of a metre");
             *kind += 1;
         }
     }
@@ -190,10 +192,10 @@ fn random_crests_within_the_ranges() {
         let answer = compare(crest);
         tally.count(answer);
         match answer {
-            0 => none += 1,
-            length if 0 < length && length < sight as i32 => beyond += 1,
-            length if sight as i32 <= length => within += 1,
-            _ => {}
+            Ok(0) => none += 1,
+            Ok(length) if length < sight => beyond += 1,
+            Ok(_) => within += 1,
+            Err(_) => {}
         }
     }
     assert_eq!(tally.numbers() + tally.refused(18), 200_000);

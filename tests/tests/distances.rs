@@ -1,15 +1,15 @@
 //! Document 01, "Distances a driver needs".
 
+use sight_tests::bare;
 use sight_tests::reference::distances::{level_distance, required_distance, up_to_five};
 use sight_tests::reference::fraction::Fraction;
-use sight_tests::reference::signed;
+use sight_tests::reference::Answer;
 use sight_tests::tally::Tally;
-use sight_tests::van;
 
 const STOPPING: u32 = 0;
 
 /// Source document 002, table 1: design speed in km/h and design stopping sight distance in metres.
-const PRINTED_BY_AASHTO: [(u32, i32); 12] = [
+const PRINTED_BY_AASHTO: [(u32, u32); 12] = [
     (20, 20),
     (30, 35),
     (40, 50),
@@ -24,13 +24,17 @@ const PRINTED_BY_AASHTO: [(u32, i32); 12] = [
     (130, 285),
 ];
 
+fn van_distance(speed: u32, purpose: u32) -> Answer {
+    bare(vcp::required_distance(speed, purpose))
+}
+
 /// Compares the van's answer with the second calculation for each speed with each purpose.
 fn compare(speeds: &[u32], purposes: &[u32]) -> Tally {
     let mut tally = Tally::default();
     for &speed in speeds {
         for &purpose in purposes {
-            let answer = van::required_distance(speed, purpose);
-            assert_eq!(answer, signed(required_distance(speed, purpose)), "speed {speed}, purpose {purpose}");
+            let answer = van_distance(speed, purpose);
+            assert_eq!(answer, required_distance(speed, purpose), "speed {speed}, purpose {purpose}");
             tally.count(answer);
         }
     }
@@ -63,27 +67,27 @@ fn far_beyond_the_ranges() {
 #[test]
 fn stopping_distances_printed_by_aashto() {
     for (speed, metres) in PRINTED_BY_AASHTO {
-        assert_eq!(van::required_distance(speed, STOPPING), metres, "van, speed {speed}");
-        assert_eq!(signed(required_distance(speed, STOPPING)), metres, "second calculation, speed {speed}");
+        assert_eq!(van_distance(speed, STOPPING), Ok(metres), "van, speed {speed}");
+        assert_eq!(required_distance(speed, STOPPING), Ok(metres), "second calculation, speed {speed}");
     }
 }
 
 #[test]
 fn cases_of_document_01() {
     let cases = [
-        (80, STOPPING, 130),
-        (100, STOPPING, 185),
-        (20, 1, 25),
-        (130, 5, 525),
-        (90, STOPPING, 160),
-        (20, STOPPING, 20),
-        (130, STOPPING, 285),
-        (19, STOPPING, -6),
-        (131, STOPPING, -6),
+        (80, STOPPING, Ok(130)),
+        (100, STOPPING, Ok(185)),
+        (20, 1, Ok(25)),
+        (130, 5, Ok(525)),
+        (90, STOPPING, Ok(160)),
+        (20, STOPPING, Ok(20)),
+        (130, STOPPING, Ok(285)),
+        (19, STOPPING, Err(6)),
+        (131, STOPPING, Err(6)),
     ];
     for (speed, purpose, answer) in cases {
-        assert_eq!(van::required_distance(speed, purpose), answer, "van, speed {speed}, purpose {purpose}");
-        let second = signed(required_distance(speed, purpose));
+        assert_eq!(van_distance(speed, purpose), answer, "van, speed {speed}, purpose {purpose}");
+        let second = required_distance(speed, purpose);
         assert_eq!(second, answer, "second calculation, speed {speed}, purpose {purpose}");
     }
 }
@@ -91,10 +95,10 @@ fn cases_of_document_01() {
 /// A wrong speed is refused 6 whatever the purpose is.
 #[test]
 fn speed_is_refused_before_purpose() {
-    assert_eq!(van::required_distance(19, 6), -6);
-    assert_eq!(van::required_distance(131, u32::MAX), -6);
-    assert_eq!(van::required_distance(20, 6), -7);
-    assert_eq!(van::required_distance(130, u32::MAX), -7);
+    assert_eq!(van_distance(19, 6), Err(6));
+    assert_eq!(van_distance(131, u32::MAX), Err(6));
+    assert_eq!(van_distance(20, 6), Err(7));
+    assert_eq!(van_distance(130, u32::MAX), Err(7));
 }
 
 /// The second calculation by itself: 129.01 m before rounding at 80 km/h, and no exact multiple of 5 m is raised.

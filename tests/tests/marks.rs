@@ -1,30 +1,24 @@
 //! Document 01, "Marks and zones": the marking of a road file.
 
+use sight_tests::bare;
 use sight_tests::random::Random;
 use sight_tests::reference::distances::required_distance;
 use sight_tests::reference::file::{bytes, read};
 use sight_tests::reference::marks::{mark_road_file, runs};
 use sight_tests::reference::road::{Curve, Road};
-use sight_tests::reference::signed;
+use sight_tests::reference::Answer;
 use sight_tests::roads;
 use sight_tests::tally::Tally;
-use sight_tests::van;
-
-/// The bits of a mark, by their letters in the listing.
-const S: u8 = 1;
-const D: u8 = 2;
-const R: u8 = 4;
-const NO_S: u8 = 8;
-const NO_D: u8 = 16;
+use vcp::{DECISION_LACKING, DECISION_NOT_JUDGED, REDUCED_DECISION, STOPPING_LACKING, STOPPING_NOT_JUDGED};
 
 /// The van marks `places` bytes just as the second calculation does, and the rest stays.
-fn compare(random: &mut Random, file: &[u8], places: usize) -> (i32, Vec<u8>) {
+fn compare(random: &mut Random, file: &[u8], places: usize) -> (Answer, Vec<u8>) {
     let before: Vec<u8> = (0..places).map(|_| random.bits() as u8).collect();
     let (mut marks, mut second) = (before.clone(), before.clone());
-    let answer = van::mark_road_file(file, &mut marks);
-    assert_eq!(answer, signed(mark_road_file(file, &mut second)), "{places} places, {file:02X?}");
+    let answer = bare(vcp::mark_road_file(file, &mut marks));
+    assert_eq!(answer, mark_road_file(file, &mut second), "{places} places, {file:02X?}");
     assert_eq!(marks, second, "{places} places, {file:02X?}");
-    if answer < 0 {
+    if answer.is_err() {
         assert_eq!(marks, before, "a refusal changes nothing");
     }
     (answer, marks)
@@ -33,11 +27,11 @@ fn compare(random: &mut Random, file: &[u8], places: usize) -> (i32, Vec<u8>) {
 /// Compares an accepted file in buffers that are one place too short, empty, and long enough. Answers the marks.
 fn compare_accepted(random: &mut Random, file: &[u8]) -> Vec<u8> {
     let stations = read(file).expect("the road is accepted").length as usize + 1;
-    assert_eq!(compare(random, file, stations - 1).0, -14);
-    assert_eq!(compare(random, file, 0).0, -14);
+    assert_eq!(compare(random, file, stations - 1).0, Err(14));
+    assert_eq!(compare(random, file, 0).0, Err(14));
     let more = random.within(0..=3) as usize;
     let (answer, mut marks) = compare(random, file, stations + more);
-    assert_eq!(answer, stations as i32);
+    assert_eq!(answer, Ok(stations as u32));
     marks.truncate(stations);
     marks
 }
@@ -136,9 +130,9 @@ fn near_the_end_nothing_is_lacking() {
         let marks = compare_accepted(&mut random, &bytes(&road));
         let [stopping, decision] = [0, 1].map(|purpose| required_distance(30, purpose).expect("both are accepted"));
         for (i, mark) in (0..).zip(marks) {
-            let no_s = if i + stopping > length { NO_S } else { 0 };
-            let no_d = if i + decision > length { NO_D } else { 0 };
-            assert_eq!(mark, no_s | no_d, "station {i} of {length}");
+            let no_stopping = if i + stopping > length { STOPPING_NOT_JUDGED } else { 0 };
+            let no_decision = if i + decision > length { DECISION_NOT_JUDGED } else { 0 };
+            assert_eq!(mark, no_stopping | no_decision, "station {i} of {length}");
         }
     }
 }
@@ -156,8 +150,8 @@ fn hump_behind_a_short_crest() {
         curves: vec![crest(199, 700), crest(201, -200), crest(203, -300)],
     };
     let marks = compare_accepted(&mut Random::new(31), &bytes(&road));
-    assert_eq!(marks[194] & (S | R | NO_S), S);
-    assert!(marks.iter().any(|mark| mark & D != 0));
+    assert_eq!(marks[194] & (STOPPING_LACKING | REDUCED_DECISION | STOPPING_NOT_JUDGED), STOPPING_LACKING);
+    assert!(marks.iter().any(|mark| mark & DECISION_LACKING != 0));
 }
 
 #[test]
@@ -165,7 +159,7 @@ fn longest_road() {
     let mut random = Random::new(32);
     let mut road = roads::longest(&mut random);
     road.speed = 30;
-    assert_eq!(compare_accepted(&mut random, &bytes(&road)).len(), 8_001);
+    assert_eq!(compare_accepted(&mut random, &bytes(&road)).len(), vcp::MOST_STATIONS);
 }
 
 /// A file is refused as reading refuses it, whatever the buffer is.
@@ -189,7 +183,7 @@ fn refused_files() {
         let Err(refusal) = read(&file) else { continue };
         let places = random.one_of(&[0, 1, 300, 9_000]);
         let (answer, _) = compare(&mut random, &file, places);
-        assert_eq!(answer, -(refusal as i32));
+        assert_eq!(answer, Err(refusal));
         tally.count(answer);
     }
     for refusal in 1..=13 {

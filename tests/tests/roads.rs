@@ -5,7 +5,7 @@ use sight_tests::probe;
 use sight_tests::random::Random;
 use sight_tests::reference::file::{bytes, file_heights, read, rewrite};
 use sight_tests::reference::road::{Curve, Road};
-use sight_tests::reference::signed;
+use sight_tests::reference::Answer;
 use sight_tests::roads;
 use sight_tests::tally::Tally;
 
@@ -19,26 +19,26 @@ fn road(first_grade: i16, curves: &[Curve]) -> Road {
 }
 
 /// The program fills `places` numbers with heights just as the second calculation does, and the rest stays.
-fn compare_heights(random: &mut Random, file: &[u8], places: usize) -> i32 {
+fn compare_heights(random: &mut Random, file: &[u8], places: usize) -> Answer {
     let before: Vec<i32> = (0..places).map(|_| random.bits() as i32).collect();
     let (mut filled, mut second) = (before.clone(), before.clone());
     let answer = probe::heights(file, &mut filled);
-    assert_eq!(answer, signed(file_heights(file, &mut second)), "{places} places, {file:02X?}");
+    assert_eq!(answer, file_heights(file, &mut second), "{places} places, {file:02X?}");
     assert_eq!(filled, second, "{places} places, {file:02X?}");
-    if answer < 0 {
+    if answer.is_err() {
         assert_eq!(filled, before, "a refusal changes nothing");
     }
     answer
 }
 
 /// The program writes into `places` bytes just as the second calculation does, and the rest stays.
-fn compare_rewriting(random: &mut Random, file: &[u8], places: usize) -> i32 {
+fn compare_rewriting(random: &mut Random, file: &[u8], places: usize) -> Answer {
     let before: Vec<u8> = (0..places).map(|_| random.bits() as u8).collect();
     let (mut written, mut second) = (before.clone(), before.clone());
     let answer = probe::rewrite(file, &mut written);
-    assert_eq!(answer, signed(rewrite(file, &mut second)), "{places} places, {file:02X?}");
+    assert_eq!(answer, rewrite(file, &mut second), "{places} places, {file:02X?}");
     assert_eq!(written, second, "{places} places, {file:02X?}");
-    if answer < 0 {
+    if answer.is_err() {
         assert_eq!(written, before, "a refusal changes nothing");
     } else {
         assert_eq!(written[..file.len()], *file, "a road is written as it was read");
@@ -51,22 +51,23 @@ fn compare_rewriting(random: &mut Random, file: &[u8], places: usize) -> i32 {
 fn compare_accepted(random: &mut Random, file: &[u8]) -> usize {
     let stations = read(file).expect("the road is accepted").length as usize + 1;
     let more = random.of_any_size(50) as usize;
-    for (places, answer) in
-        [(stations, stations as i32), (stations + more, stations as i32), (stations - 1, -14), (0, -14)]
-    {
+    let room = |needed: usize| {
+        let all = Ok(needed as u32);
+        [(needed, all), (needed + more, all), (needed - 1, Err(14)), (0, Err(14))]
+    };
+    for (places, answer) in room(stations) {
         assert_eq!(compare_heights(random, file, places), answer);
     }
-    let length = file.len();
-    for (places, answer) in [(length, length as i32), (length + more, length as i32), (length - 1, -14), (0, -14)] {
+    for (places, answer) in room(file.len()) {
         assert_eq!(compare_rewriting(random, file, places), answer);
     }
     stations
 }
 
 /// Compares a file of any kind in buffers of any length. Answers what both operations refuse it by, or the stations.
-fn compare_any(random: &mut Random, file: &[u8]) -> i32 {
+fn compare_any(random: &mut Random, file: &[u8]) -> Answer {
     if read(file).is_ok() {
-        return compare_accepted(random, file) as i32;
+        return Ok(compare_accepted(random, file) as u32);
     }
     let places = random.one_of(&[0, 1, 50, 300, 10_000]);
     let answer = compare_heights(random, file, places);
@@ -75,8 +76,8 @@ fn compare_any(random: &mut Random, file: &[u8]) -> i32 {
 }
 
 /// Both operations refuse this road by this number.
-fn expect_refused(road: &Road, refusal: i32) {
-    assert_eq!(compare_any(&mut Random::new(0), &bytes(road)), -refusal, "{road:?}");
+fn expect_refused(road: &Road, refusal: u32) {
+    assert_eq!(compare_any(&mut Random::new(0), &bytes(road)), Err(refusal), "{road:?}");
 }
 
 fn expect_accepted(road: &Road) {
@@ -89,7 +90,7 @@ fn cases_of_document_01() {
     for (length, heights_there) in cases {
         let file = bytes(&road(300, &[curve(50, length, -300)]));
         let (mut filled, mut second) = ([0; 101], [0; 101]);
-        assert_eq!(probe::heights(&file, &mut filled), 101);
+        assert_eq!(probe::heights(&file, &mut filled), Ok(101));
         assert_eq!(file_heights(&file, &mut second), Ok(101));
         for &(station, height) in heights_there {
             assert_eq!(filled[station], height, "program, length {length}, station {station}");
@@ -143,7 +144,7 @@ fn random_files_with_one_fault() {
     for refusal in 1..=13 {
         for _ in 0..400 {
             let file = roads::faulty_file(&mut random, &[refusal]);
-            assert_eq!(compare_any(&mut random, &file), -(refusal as i32), "{file:02X?}");
+            assert_eq!(compare_any(&mut random, &file), Err(refusal), "{file:02X?}");
         }
     }
 }
@@ -195,12 +196,12 @@ fn truncated_and_lengthened() {
     let mut random = Random::new(9);
     let file = bytes(&road(300, &[curve(10, 20, -300), curve(20, 0, 300), curve(60, 80, -300)]));
     for length in 0..file.len() {
-        let refusal = if length < 16 { -1 } else { -5 };
-        assert_eq!(compare_any(&mut random, &file[..length]), refusal, "{length} bytes");
+        let refusal = if length < 16 { 1 } else { 5 };
+        assert_eq!(compare_any(&mut random, &file[..length]), Err(refusal), "{length} bytes");
     }
-    assert_eq!(compare_any(&mut random, &file), 101);
+    assert_eq!(compare_any(&mut random, &file), Ok(101));
     for more in 1..=200 {
-        assert_eq!(compare_any(&mut random, &[file.clone(), vec![0; more]].concat()), -5, "{more} bytes more");
+        assert_eq!(compare_any(&mut random, &[file.clone(), vec![0; more]].concat()), Err(5), "{more} bytes more");
     }
 }
 
@@ -208,23 +209,24 @@ fn truncated_and_lengthened() {
 fn file_refusals_at_each_edge() {
     let mut random = Random::new(10);
     let good = bytes(&road(300, &[]));
-    let mut expect = |at: usize, byte: u8, answer: i32| {
+    let mut expect = |at: usize, byte: u8, accepted: bool, refusal: u32| {
         let mut file = good.clone();
         file[at] = byte;
+        let answer = if accepted { Ok(101) } else { Err(refusal) };
         assert_eq!(compare_any(&mut random, &file), answer, "byte {at} is {byte}");
     };
     for byte in 0..=255 {
         for (at, letter) in (0..).zip(*b"VCP") {
-            expect(at, byte, if byte == letter { 101 } else { -2 });
+            expect(at, byte, byte == letter, 2);
         }
-        expect(3, byte, if byte == 1 { 101 } else { -3 });
-        expect(4, byte, if byte == 0 { 101 } else { -3 });
-        expect(5, byte, if (20..=130).contains(&byte) { 101 } else { -6 });
-        expect(6, byte, if (1..=5).contains(&byte) { 101 } else { -7 });
-        expect(15, byte, [101, -5, -4][usize::from(byte > 0) + usize::from(byte > 32)]);
+        expect(3, byte, byte == 1, 3);
+        expect(4, byte, byte == 0, 3);
+        expect(5, byte, (20..=130).contains(&byte), 6);
+        expect(6, byte, (1..=5).contains(&byte), 7);
+        expect(15, byte, byte == 0, if byte > 32 { 4 } else { 5 });
     }
     // 33 curves are refused 4 also where their records are there.
-    for (curves, answer) in [(32, 101), (33, -4)] {
+    for (curves, answer) in [(32, Ok(101)), (33, Err(4))] {
         let file = bytes(&road(300, &vec![curve(50, 0, 0); curves]));
         assert_eq!(compare_any(&mut random, &file), answer, "{curves} curves");
     }
@@ -291,7 +293,7 @@ fn refusals_in_order() {
         for higher in lower + 1..=13 {
             for _ in 0..20 {
                 let file = roads::faulty_file(&mut random, &[lower, higher]);
-                assert_eq!(compare_any(&mut random, &file), -(lower as i32), "{lower} and {higher}: {file:02X?}");
+                assert_eq!(compare_any(&mut random, &file), Err(lower), "{lower} and {higher}: {file:02X?}");
                 pairs += 1;
             }
         }

@@ -10,7 +10,7 @@ use sight_tests::reference::road::{exact_heights, stored_height, Curve, Road};
 use sight_tests::reference::sight::{
     ahead, available_sight, clears, seen, sight, sight_profile, whole_heights, Height, Look,
 };
-use sight_tests::reference::signed;
+use sight_tests::reference::Answer;
 use sight_tests::roads;
 use sight_tests::tally::Tally;
 
@@ -24,20 +24,20 @@ fn any_look(random: &mut Random, farthest: u32) -> Look {
 }
 
 /// The program's sight from one station, which is that of the second calculation.
-fn compare_sight(heights: &[i32], station: u32, look: Look) -> i32 {
+fn compare_sight(heights: &[i32], station: u32, look: Look) -> Answer {
     let answer = probe::sight(heights, station, look);
-    assert_eq!(answer, signed(sight(heights, station, look)), "station {station}, {look:?}, {heights:?}");
+    assert_eq!(answer, sight(heights, station, look), "station {station}, {look:?}, {heights:?}");
     answer
 }
 
 /// The program fills `places` numbers with sights just as the second calculation does, and the rest stays.
-fn compare_profile(random: &mut Random, heights: &[i32], look: Look, places: usize) -> (i32, Vec<u16>) {
+fn compare_profile(random: &mut Random, heights: &[i32], look: Look, places: usize) -> (Answer, Vec<u16>) {
     let before: Vec<u16> = (0..places).map(|_| random.bits() as u16).collect();
     let (mut sights, mut second) = (before.clone(), before.clone());
     let answer = probe::profile(heights, look, &mut sights);
-    assert_eq!(answer, signed(sight_profile(heights, look, &mut second)), "{places} places, {look:?}, {heights:?}");
+    assert_eq!(answer, sight_profile(heights, look, &mut second), "{places} places, {look:?}, {heights:?}");
     assert_eq!(sights, second, "{places} places, {look:?}, {heights:?}");
-    if answer < 0 {
+    if answer.is_err() {
         assert_eq!(sights, before, "a refusal changes nothing");
     }
     (answer, sights)
@@ -48,11 +48,11 @@ fn compare_all(random: &mut Random, heights: &[i32], look: Look) -> Vec<u16> {
     let stations = heights.len();
     let more = random.within(0..=3) as usize;
     let (answer, mut sights) = compare_profile(random, heights, look, stations + more);
-    assert_eq!(answer, stations as i32);
-    assert_eq!(compare_profile(random, heights, look, stations - 1).0, -14);
+    assert_eq!(answer, Ok(stations as u32));
+    assert_eq!(compare_profile(random, heights, look, stations - 1).0, Err(14));
     sights.truncate(stations);
     for (station, &there) in (0..).zip(&sights) {
-        assert_eq!(probe::sight(heights, station, look), i32::from(there), "station {station}, {look:?}, {heights:?}");
+        assert_eq!(probe::sight(heights, station, look), Ok(there.into()), "station {station}, {look:?}, {heights:?}");
     }
     sights
 }
@@ -60,13 +60,13 @@ fn compare_all(random: &mut Random, heights: &[i32], look: Look) -> Vec<u16> {
 /// The heights of an accepted road, as the program fills them.
 fn program_heights(road: &Road) -> Vec<i32> {
     let mut heights = vec![0; road.length as usize + 1];
-    assert_eq!(probe::heights(&bytes(road), &mut heights), road.length as i32 + 1, "{road:?}");
+    assert_eq!(probe::heights(&bytes(road), &mut heights), Ok(road.length + 1), "{road:?}");
     heights
 }
 
 #[test]
 fn cases_of_document_01() {
-    let cases: [(&[i32], Look, i32); 4] = [
+    let cases: [(&[i32], Look, u16); 4] = [
         (&[0, 20, 0, 100], look(10, 5, 8), 1),
         (&[0, 5, 0], look(6, 4, 8), 2),
         (&[0, 6, 0], look(6, 4, 8), 1),
@@ -74,8 +74,8 @@ fn cases_of_document_01() {
     ];
     let mut random = Random::new(12);
     for (heights, look, answer) in cases {
-        assert_eq!(compare_sight(heights, 0, look), answer, "{heights:?}");
-        assert_eq!(i32::from(compare_all(&mut random, heights, look)[0]), answer, "{heights:?}");
+        assert_eq!(compare_sight(heights, 0, look), Ok(answer.into()), "{heights:?}");
+        assert_eq!(compare_all(&mut random, heights, look)[0], answer, "{heights:?}");
     }
 }
 
@@ -189,7 +189,7 @@ fn longest_list() {
     // On a straight everything is seen, up to the greatest of the farthest distances.
     let straight: Vec<i32> = (0..8_001).map(|station| 90_000_000 - 1_500 * station).collect();
     for (station, sight) in [(0, 8_000), (1, 7_999), (7_999, 1), (8_000, 0)] {
-        assert_eq!(compare_sight(&straight, station, look(1, 1, 8_000)), sight);
+        assert_eq!(compare_sight(&straight, station, look(1, 1, 8_000)), Ok(sight));
     }
 }
 
@@ -198,32 +198,36 @@ fn refusals_at_each_edge() {
     let mut random = Random::new(17);
     let flat = [0; 8_002];
     let good = look(EYE, OBJECT, 10);
-    for (stations, answer) in [(0, -19), (1, 0), (2, 1), (8_001, 10), (8_002, -19)] {
+    for (stations, answer) in [(0, Err(19)), (1, Ok(0)), (2, Ok(1)), (8_001, Ok(10)), (8_002, Err(19))] {
         assert_eq!(compare_sight(&flat[..stations], 0, good), answer, "{stations} stations");
-        let filled = if answer < 0 { answer } else { stations as i32 };
+        let filled = answer.map(|_| stations as u32);
         assert_eq!(compare_profile(&mut random, &flat[..stations], good, 8_002).0, filled, "{stations} stations");
     }
     let heights = &flat[..50];
-    for (station, answer) in [(0, 10), (48, 1), (49, 0), (50, -20), (8_001, -20), (65_536, -20), (u32::MAX, -20)] {
-        assert_eq!(compare_sight(heights, station, good), answer, "station {station}");
+    for (station, answer) in [(0, 10), (48, 1), (49, 0)] {
+        assert_eq!(compare_sight(heights, station, good), Ok(answer), "station {station}");
+    }
+    for station in [50, 8_001, 65_536, u32::MAX] {
+        assert_eq!(compare_sight(heights, station, good), Err(20), "station {station}");
     }
     for (height, accepted) in
         [(0, false), (1, true), (50_000, true), (50_001, false), (65_537, false), (u32::MAX, false)]
     {
         for look in [Look { eye: height, ..good }, Look { object: height, ..good }] {
-            assert_eq!(compare_sight(heights, 0, look), if accepted { 10 } else { -17 }, "{look:?}");
+            assert_eq!(compare_sight(heights, 0, look), if accepted { Ok(10) } else { Err(17) }, "{look:?}");
             let filled = compare_profile(&mut random, heights, look, 50).0;
-            assert_eq!(filled, if accepted { 50 } else { -17 }, "{look:?}");
+            assert_eq!(filled, if accepted { Ok(50) } else { Err(17) }, "{look:?}");
         }
     }
-    let distances = [(0, -21), (1, 1), (49, 49), (50, 49), (8_000, 49), (8_001, -21), (65_537, -21), (u32::MAX, -21)];
-    for (farthest, answer) in distances {
+    let accepted = [(1, 1), (49, 49), (50, 49), (8_000, 49)].map(|(farthest, sight)| (farthest, Ok(sight)));
+    let refused = [0, 8_001, 65_537, u32::MAX].map(|farthest| (farthest, Err(21)));
+    for (farthest, answer) in accepted.into_iter().chain(refused) {
         let look = Look { farthest, ..good };
         assert_eq!(compare_sight(heights, 0, look), answer, "{look:?}");
-        let filled = if answer < 0 { answer } else { 50 };
+        let filled = answer.map(|_| 50);
         assert_eq!(compare_profile(&mut random, heights, look, 50).0, filled, "{look:?}");
     }
-    for (places, answer) in [(0, -14), (49, -14), (50, 50), (51, 50)] {
+    for (places, answer) in [(0, Err(14)), (49, Err(14)), (50, Ok(50)), (51, Ok(50))] {
         assert_eq!(compare_profile(&mut random, heights, good, places).0, answer, "{places} places");
     }
 }
@@ -235,7 +239,9 @@ fn refusals_in_order() {
     let (mut of_station, mut of_profile) = (Tally::default(), Tally::default());
     for faults in 0..16 {
         let has = |fault: u32| faults >> fault & 1 == 1;
-        let first = |order: [i32; 4], good: i32| (0..).zip(order).find(|&(at, _)| has(at)).map_or(good, |(_, at)| -at);
+        let first = |order: [u32; 4], good: u32| {
+            (0..).zip(order).find(|&(at, _)| has(at)).map_or(Ok(good), |(_, refusal)| Err(refusal))
+        };
         let heights = vec![0; if has(0) { random.one_of(&[0, 8_002]) } else { 20 }];
         let bad = random.one_of(&[0, 50_001]);
 
@@ -276,7 +282,7 @@ fn accuracy_rule() {
         let object = random.one_of(&[1, 2, 5, 50, 500, OBJECT, 50_000]);
         let look = look(eye, object, random.one_of(&[60, 60, 20, 8_000]));
         let mut sights = vec![0; road.length as usize + 1];
-        assert_eq!(probe::profile(&program_heights(&road), look, &mut sights), road.length as i32 + 1);
+        assert_eq!(probe::profile(&program_heights(&road), look, &mut sights), Ok(road.length + 1));
         let exact = exact_heights(&road);
         let lower = Look { eye: eye - 1, object: object - 1, ..look };
         let higher = Look { eye: eye + 1, object: object + 1, ..look };
@@ -404,7 +410,7 @@ fn hump_behind_a_short_crest() {
     assert_eq!(sight_over_nearest_curve(&road, &whole, look, station), 160);
     assert_eq!(available_sight(&late, look, station), 160);
     // It is not clear, and only station 203 is in the way.
-    assert_eq!(compare_sight(&heights, station as u32, look), 153);
+    assert_eq!(compare_sight(&heights, station as u32, look), Ok(153));
     assert_eq!(compare_all(&mut Random::new(20), &heights, look)[station], 153);
     for j in station + 1..=station + 160 {
         let in_the_way: Vec<usize> = (station + 1..j).filter(|&k| !clears(&whole, look, station, k, j)).collect();

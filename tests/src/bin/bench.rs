@@ -5,14 +5,14 @@
 use std::fs;
 use std::hint::black_box;
 
+use sight_tests::bare;
 use sight_tests::quick;
 use sight_tests::random::Random;
 use sight_tests::reference::crest::Crest;
 use sight_tests::reference::distances::required_distance;
 use sight_tests::reference::file::bytes;
 use sight_tests::reference::road::{Curve, Road};
-use sight_tests::reference::{signed, Answer};
-use sight_tests::van;
+use sight_tests::reference::Answer;
 
 const ROUNDS: usize = 15;
 
@@ -105,12 +105,12 @@ fn markings(road: &Road, other: Marking) -> Times {
     let file = bytes(road);
     let stations = road.length as usize + 1;
     let (mut van_marks, mut other_marks) = (vec![0xFF; stations], vec![0xFF; stations]);
-    assert_eq!(van::mark_road_file(&file, &mut van_marks), stations as i32, "{road:?}");
+    assert_eq!(vcp::mark_road_file(&file, &mut van_marks), Ok(stations as u32), "{road:?}");
     assert_eq!(other(&file, &mut other_marks), Ok(stations as u32), "{road:?}");
     assert_eq!(van_marks, other_marks, "{road:?}");
     side_by_side(
         &mut || {
-            black_box(van::mark_road_file(black_box(&file), black_box(&mut van_marks)));
+            let _ = black_box(vcp::mark_road_file(black_box(&file), black_box(&mut van_marks)));
         },
         &mut || {
             let _ = black_box(other(black_box(&file), black_box(&mut other_marks)));
@@ -129,14 +129,14 @@ fn crest_lengths() -> Times {
             object: random.within(1..=50_000),
         })
         .collect();
-    let van_length = |crest: Crest| van::crest_length(crest.drop, crest.sight, crest.eye, crest.object);
+    let van_length = |crest: Crest| vcp::crest_length(crest.drop, crest.sight, crest.eye, crest.object);
     for &crest in &crests {
-        assert_eq!(van_length(crest), signed(quick::crest_length(crest)), "{crest:?}");
+        assert_eq!(bare(van_length(crest)), quick::crest_length(crest), "{crest:?}");
     }
     let Times { van, other, ratio } = side_by_side(
         &mut || {
             for &crest in &crests {
-                black_box(van_length(black_box(crest)));
+                let _ = black_box(van_length(black_box(crest)));
             }
         },
         &mut || {

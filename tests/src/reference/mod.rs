@@ -12,14 +12,3 @@ pub mod sight;
 
 /// The value, or the number of the refusal.
 pub type Answer = Result<u32, u32>;
-
-/// The van's form of an answer: a signed number, a refusal being minus its number.
-pub fn signed(answer: Answer) -> i32 {
-    let (Ok(number) | Err(number)) = answer;
-    let number = i32::try_from(number).expect("an answer fits the van's signed number");
-    if answer.is_ok() {
-        number
-    } else {
-        -number
-    }
-}

@@ -1,0 +1,102 @@
+//! Document 01's refusals.
+
+use std::error::Error;
+use std::fmt;
+
+/// Why there is no answer: one of document 01's numbers, 1 to 23, with its reason in words.
+///
+/// ```
+/// let refusal = vcp::required_distance(19, 0).unwrap_err();
+/// assert_eq!(refusal.number(), 6);
+/// assert_eq!(refusal.to_string(), "refused 6: the speed is not 20 to 130 km/h");
+/// ```
+#[derive(Clone, Copy, Debug, PartialEq, Eq, PartialOrd, Ord, Hash)]
+pub struct Refusal {
+    number: u32,
+}
+
+/// The reasons of refusals 1 to 23, in order.
+const REASONS: [&str; 23] = [
+    "the file has fewer than 16 bytes",
+    "the file does not begin with the letters VCP",
+    "the file's version is not 1",
+    "there are more than 32 curves",
+    "the file's total length is not 16 bytes and 6 for each curve",
+    "the speed is not 20 to 130 km/h",
+    "the purpose is not 0 to 5, or that of a road is not 1 to 5",
+    "the road's length is not 1 to 8,000 m",
+    "the start height is not -10,000,000 to 90,000,000 h-units (-1,000 to 9,000 m)",
+    "a grade is not -1,500 to 1,500 hundredths of a percent (-15 to 15 %)",
+    "a curve's length is odd or over 2,000 m",
+    "a curve begins before station 0 or ends after the road",
+    "a curve begins before the end of the curve listed just before it",
+    "a lent list or buffer is too short",
+    "the drop in grade is not 1 to 3,000 hundredths of a percent",
+    "the sight distance is not 1 to 800 m",
+    "the height of eye or object is not 1 to 50,000 h-units",
+    "no even crest length up to 2,000 m is adequate",
+    "the list of heights or marks is empty or longer than 8,001",
+    "the station is beyond the last",
+    "the farthest distance is not 1 to 8,000 m",
+    "the bit number is over 4",
+    "the lent list holds fewer than two numbers for each zone",
+];
+
+impl Refusal {
+    /// Document 01's number of the refusal.
+    pub fn number(self) -> u32 {
+        self.number
+    }
+
+    /// The reason in words.
+    fn reason(self) -> &'static str {
+        let place = (self.number as usize).wrapping_sub(1);
+        REASONS.get(place).copied().unwrap_or("document 01 does not name this number")
+    }
+}
+
+impl fmt::Display for Refusal {
+    fn fmt(&self, formatter: &mut fmt::Formatter) -> fmt::Result {
+        write!(formatter, "refused {}: {}", self.number, self.reason())
+    }
+}
+
+impl Error for Refusal {}
+
+/// An answer in the van's form, where a refusal is minus its number.
+pub(crate) fn answer(signed: i32) -> Result<u32, Refusal> {
+    u32::try_from(signed).map_err(|_| Refusal { number: signed.unsigned_abs() })
+}
+
+#[cfg(test)]
+mod tests {
+    use super::*;
+
+    #[test]
+    fn the_sign_parts_answers_from_refusals() {
+        assert_eq!(answer(0), Ok(0));
+        assert_eq!(answer(i32::MAX), Ok(2_147_483_647));
+        assert_eq!(answer(-1), Err(Refusal { number: 1 }));
+        assert_eq!(answer(i32::MIN), Err(Refusal { number: 2_147_483_648 }));
+    }
+
+    #[test]
+    fn each_number_has_its_own_reason() {
+        let reason = |number: u32| Refusal { number }.reason();
+        let mut reasons: Vec<&str> = (1..=23).map(reason).collect();
+        assert_eq!(reasons[5], "the speed is not 20 to 130 km/h");
+        assert_eq!(reasons[22], "the lent list holds fewer than two numbers for each zone");
+        reasons.sort_unstable();
+        reasons.dedup();
+        assert_eq!(reasons.len(), 23);
+        assert!([0, 24, u32::MAX].iter().all(|&number| !reasons.contains(&reason(number))));
+    }
+
+    #[test]
+    fn words_come_with_the_number() {
+        let refusal = Refusal { number: 18 };
+        assert_eq!(refusal.to_string(), "refused 18: no even crest length up to 2,000 m is adequate");
+        let error: Box<dyn Error + Send + Sync> = refusal.into();
+        assert_eq!(error.to_string(), refusal.to_string());
+    }
+}
