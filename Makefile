@@ -6,9 +6,9 @@ SHELL := /bin/bash
 .ONESHELL:
 .SILENT:
 .DELETE_ON_ERROR:
-.PHONY: test list listable bench tools fmt clean
+.PHONY: test list listable road textable text readable bench tools fmt clean
 
-# The road file that `make list` lists.
+# The road file that `make list` lists and `make text` prints.
 ROAD ?= roads/three-crests.vcp
 
 # Proves every crate from nothing, tries every must-fail edit and runs the programs; then links the proved functions into
@@ -38,13 +38,31 @@ target/bin/lister: crates.txt $(shell find crates -type f)
 	rt check lister >"$$log" 2>&1 || { tail -n 20 "$$log"; exit 1; }
 	touch $@
 
+# Turns a text into a road file (rust/roadtext): TEXT with the ending .vcp, or the ROAD of the command line. The default of
+# ROAD is no place to write to.
+road: ROAD :=
+road: textable tools target/staticlib/libvan.a
+	$(roadtext) road "$(TEXT)" $(if $(ROAD),"$(ROAD)")
+
+textable:
+	$(call need,[ -f "$(TEXT)" ],$(or $(TEXT),TEXT) is not a file: make road TEXT=file [ROAD=out])
+
+# Prints the text of a road file.
+text: readable tools target/staticlib/libvan.a
+	$(roadtext) text "$(ROAD)"
+
+readable:
+	$(call need,[ -f "$(ROAD)" ],$(ROAD) is not a file: make text ROAD=file)
+
+roadtext = cargo run --release --offline --quiet --package roadtext --
+
 # Times the proved functions beside the same calculations in safe Rust and beside the literal rule, and prints one table.
 # It takes a minute or two. Libraries that are there are measured as they are.
 bench: tools target/staticlib/libvan.a target/staticlib/libprobe.a
 	cargo run --profile bench-run --offline --quiet --bin bench
 
 target/staticlib/lib%.a: | tools
-	rt staticlib $*
+	rt staticlib $* >&2
 
 # $(call need,TEST,MESSAGE): where the shell's test fails, make stops with the message.
 need = $(if $(shell ($1) >/dev/null 2>&1 && echo holds),,$(error $2))

@@ -1,0 +1,154 @@
+//! A road as a text that is easy to read and to write, turned into a road file and back.
+//!
+//! ```text
+//! # Two crests
+//! speed 90 km/h
+//! purpose 1
+//! length 1500 m
+//! start height 102.5 m
+//! first grade 4.00 %
+//! # PVI, length, grade out
+//! curve 480 m, 60 m, -2.00 %
+//! curve 900 m, 0 m, -2.75 %
+//! ```
+//!
+//! - Each line holds one item; blank lines and all that follows a `#` are passed over.
+//! - Speed, purpose, length, start height and first grade stand once each, in any order.
+//! - Curves are those of the road in their order, each with its PVI, its length and its grade out between commas.
+//! - A number is decimal digits, behind a minus if it is negative; a space and its unit follow, as above.
+//! - The start height may have up to 4 decimals behind a point, and a grade up to 2. All other numbers are whole.
+//!
+//! The purposes 1 to 5 are the decisions A to E. Which numbers a road may have, and where its curves may lie, is no matter
+//! of the text: the proved reader of road files judges the file that is made, and what it refuses is reported with the line
+//! at fault.
+
+#![forbid(unsafe_code)]
+#![deny(missing_docs)]
+
+use std::fmt;
+
+use vcp::{Refusal, MOST_STATIONS};
+
+use crate::field::{Field, CURVE, HEAD};
+use crate::lines::{read_lines, Road};
+
+mod field;
+mod lines;
+
+/// What is wrong with a line of a text.
+#[derive(Clone, Debug, PartialEq, Eq)]
+pub struct Fault {
+    /// The number of the line, from 1 on. Where a line is missing it is that of the last line.
+    pub line: usize,
+    /// What is wrong, in words; a refusal of the road with its number.
+    pub reason: String,
+}
+
+impl fmt::Display for Fault {
+    fn fmt(&self, formatter: &mut fmt::Formatter) -> fmt::Result {
+        write!(formatter, "{}: {}", self.line, self.reason)
+    }
+}
+
+/// The road file of a text.
+///
+/// # Errors
+/// All lines that cannot be read, in order; or, where all can be, the one line by which the proved reader refuses the road.
+///
+/// ```
+/// let text = "speed 20 km/h\npurpose 1\nlength 300 m\nstart height 0 m\nfirst grade 15 %\ncurve 100 m, 0 m, -15 %\n";
+/// let file = roadtext::road_file(text).unwrap();
+/// assert_eq!(file, b"VCP\x01\0\x14\x01\x2C\x01\0\0\0\0\xDC\x05\x01\x64\0\0\0\x24\xFA");
+///
+/// let faults = roadtext::road_file(&text.replace("100 m, 0 m", "100 m, 3 m")).unwrap_err();
+/// assert_eq!(faults[0].to_string(), "6: refused 11: a curve's length is odd or over 2,000 m");
+/// ```
+pub fn road_file(text: &str) -> Result<Vec<u8>, Vec<Fault>> {
+    let road = read_lines(text)?;
+    road.judged_file().map_err(|fault| vec![fault])
+}
+
+/// The text of a road file. [`road_file`] turns it into the same bytes again.
+///
+/// # Errors
+/// The proved reader's refusal of the file.
+///
+/// ```
+/// let text = roadtext::road_text(b"VCP\x01\0\x50\x01\xE8\x03\x39\x30\0\0\xFB\xFF\0").unwrap();
+/// assert_eq!(text, "speed 80 km/h\npurpose 1\nlength 1000 m\nstart height 1.2345 m\nfirst grade -0.05 %\n");
+///
+/// assert_eq!(roadtext::road_text(b"VCP").unwrap_err().number(), 1);
+/// ```
+pub fn road_text(file: &[u8]) -> Result<String, Refusal> {
+    accept(file)?;
+    let (head, curves) = (&file[START.len()..], &file[HEAD_BYTES..]);
+    let mut text = String::new();
+    for (field, number) in HEAD.iter().zip(numbers(&HEAD, head)) {
+        text += &format!("{} {number}\n", field.name);
+    }
+    if !curves.is_empty() {
+        text += "# PVI, length, grade out\n";
+    }
+    for record in curves.chunks_exact(CURVE_BYTES) {
+        text += &format!("curve {}\n", numbers(&CURVE, record).join(", "));
+    }
+    Ok(text)
+}
+
+/// The letters and the version that a road file begins with.
+const START: [u8; 5] = *b"VCP\x01\x00";
+
+/// The bytes before the curves, the last of which is the number of curves, and those of a curve.
+const HEAD_BYTES: usize = 16;
+const CURVE_BYTES: usize = 6;
+
+/// The proved reader's verdict on a file.
+fn accept(file: &[u8]) -> Result<(), Refusal> {
+    vcp::mark_road_file(file, &mut [0; MOST_STATIONS]).map(drop)
+}
+
+/// The numbers that these bytes begin with, as a text has them.
+fn numbers(fields: &[Field], mut bytes: &[u8]) -> Vec<String> {
+    let number = |field: &Field| {
+        let (own, others) = bytes.split_at(field.bytes);
+        bytes = others;
+        field.text(field.number(own))
+    };
+    fields.iter().map(number).collect()
+}
+
+impl Road {
+    /// The road file with the first so many curves. More than a byte can count are counted as 255, which is refused.
+    fn file(&self, curves: usize) -> Vec<u8> {
+        let mut file = START.to_vec();
+        for (field, number) in HEAD.iter().zip(&self.head) {
+            file.extend(field.file_bytes(number.item));
+        }
+        file.push(u8::try_from(curves).unwrap_or(u8::MAX));
+        for curve in &self.curves[..curves] {
+            for (field, number) in CURVE.iter().zip(curve.item) {
+                file.extend(field.file_bytes(number));
+            }
+        }
+        file
+    }
+
+    /// The road file, if the proved reader accepts it. The lowest curve with a fault decides, so the one at fault is the last
+    /// of the fewest first curves that are refused. A road that is refused without curves is so by a number before them.
+    fn judged_file(&self) -> Result<Vec<u8>, Fault> {
+        let all = self.curves.len();
+        let file = self.file(all);
+        let Err(refusal) = accept(&file) else { return Ok(file) };
+        let refused = |curves: usize| Some((curves, accept(&self.file(curves)).err()?));
+        let (curves, refusal) = (0..all).find_map(refused).unwrap_or((all, refusal));
+        let line = match (curves, refusal.number()) {
+            (0, 6) => self.head[0].line,
+            (0, 7) => self.head[1].line,
+            (0, 8) => self.head[2].line,
+            (0, 9) => self.head[3].line,
+            (0, _) => self.head[4].line,
+            (_, _) => self.curves[curves - 1].line,
+        };
+        Err(Fault { line, reason: refusal.to_string() })
+    }
+}

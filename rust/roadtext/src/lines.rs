@@ -1,0 +1,93 @@
+//! The lines of a text, read into the road file's numbers.
+
+use crate::field::{CURVE, HEAD};
+use crate::Fault;
+
+/// An item, and the line where it stands.
+#[derive(Clone, Copy)]
+pub struct Placed<T> {
+    pub line: usize,
+    pub item: T,
+}
+
+/// A road as its text has it, in the road file's numbers.
+pub struct Road {
+    pub head: [Placed<i64>; 5],
+    pub curves: Vec<Placed<[i64; 3]>>,
+}
+
+/// The items read so far.
+#[derive(Default)]
+struct Items {
+    head: [Option<Placed<i64>>; 5],
+    curves: Vec<Placed<[i64; 3]>>,
+}
+
+impl Items {
+    /// Reads a line; answers what is wrong with it.
+    fn read(&mut self, line: usize, text: &str) -> Result<(), String> {
+        let before_comment = text.split('#').next().unwrap_or_default();
+        let text = before_comment.split_whitespace().collect::<Vec<_>>().join(" ");
+        if text.is_empty() {
+            return Ok(());
+        }
+        if let Some(numbers) = behind("curve", &text) {
+            self.curves.push(Placed { line, item: curve(numbers)? });
+            return Ok(());
+        }
+        let mut head = HEAD.iter().zip(&mut self.head);
+        let found = head.find_map(|(field, place)| Some((field, place, behind(field.name, &text)?)));
+        let Some((field, place, number)) = found else {
+            let names = HEAD.map(|field| field.name).join(", ");
+            return Err(format!("unknown words in {text:?}: a line begins with {names} or curve"));
+        };
+        if let Some(first) = place {
+            return Err(format!("{} stands on line {} already", field.name, first.line));
+        }
+        // Also where its number is at fault the line is there.
+        let item = field.read(number);
+        *place = Some(Placed { line, item: *item.as_ref().unwrap_or(&0) });
+        item.map(drop)
+    }
+}
+
+/// What a line has behind its first words, if it begins with these.
+fn behind<'a>(words: &str, text: &'a str) -> Option<&'a str> {
+    match text.strip_prefix(words)? {
+        "" => Some(""),
+        others => others.strip_prefix(' '),
+    }
+}
+
+/// The numbers of a curve.
+fn curve(text: &str) -> Result<[i64; 3], String> {
+    let parts: Vec<&str> = text.split(',').map(str::trim).collect();
+    let [pvi, length, grade_out] = parts[..] else {
+        return Err("a curve has three parts between commas: its PVI, its length and its grade out".to_string());
+    };
+    Ok([CURVE[0].read(pvi)?, CURVE[1].read(length)?, CURVE[2].read(grade_out)?])
+}
+
+/// Reads all lines; answers all that is wrong.
+pub fn read_lines(text: &str) -> Result<Road, Vec<Fault>> {
+    let mut items = Items::default();
+    let mut faults = Vec::new();
+    let mut last = 1;
+    for (line, text) in (1..).zip(text.lines()) {
+        last = line;
+        if let Err(reason) = items.read(line, text) {
+            faults.push(Fault { line, reason });
+        }
+    }
+    for (field, item) in HEAD.iter().zip(&items.head) {
+        if item.is_none() {
+            faults.push(Fault { line: last, reason: format!("the line {} is missing", field.name) });
+        }
+    }
+    match items.head {
+        [Some(speed), Some(purpose), Some(length), Some(start_height), Some(first_grade)] if faults.is_empty() => {
+            Ok(Road { head: [speed, purpose, length, start_height, first_grade], curves: items.curves })
+        }
+        _ => Err(faults),
+    }
+}

@@ -1,0 +1,388 @@
+//! Roads as texts, against the second calculation's roads and road files.
+
+use std::fs;
+use std::path::Path;
+
+use roadtext::{road_file, road_text, Fault};
+use sight_tests::random::Random;
+use sight_tests::reference::file::{bytes, read};
+use sight_tests::reference::road::{verdict, Curve, Road};
+use sight_tests::roads;
+
+/// A number of hundredths or of ten-thousandths in decimals, with some of the zeros that may be left out.
+fn decimal(random: &mut Random, number: i64, decimals: usize) -> String {
+    let sign = if number < 0 { "-" } else { "" };
+    let unit = 10_u64.pow(decimals as u32);
+    let (whole, fraction) = (number.unsigned_abs() / unit, number.unsigned_abs() % unit);
+    let mut text = format!("{sign}{whole}.{fraction:0decimals$}");
+    while text.ends_with('0') && !text.ends_with(".0") && random.once_in(2) {
+        text.pop();
+    }
+    if text.ends_with(".0") && random.once_in(2) {
+        text.truncate(text.len() - 2);
+    }
+    text
+}
+
+/// A road's lines in any order that keeps the order of the curves, with other lines between: first those of speed, purpose,
+/// length, start height and first grade, then those of the curves, each with the number where it stands.
+struct Written {
+    text: String,
+    head: Vec<usize>,
+    curves: Vec<usize>,
+}
+
+fn write(random: &mut Random, road: &Road) -> Written {
+    let mut head = vec![
+        format!("speed {} km/h", road.speed),
+        format!("purpose {}", road.purpose),
+        format!("length {} m", road.length),
+        format!("start height {} m", decimal(random, road.start_height.into(), 4)),
+        format!("first grade {} %", decimal(random, road.first_grade.into(), 2)),
+    ];
+    let curves = road.curves.iter().map(|curve| {
+        let grade_out = decimal(random, curve.grade_out.into(), 2);
+        format!("curve {} m, {} m, {grade_out} %", curve.pvi, curve.length)
+    });
+    let curves: Vec<String> = curves.collect();
+    let mut order: Vec<(usize, String)> = head.drain(..).enumerate().collect();
+    for place in (1..5).rev() {
+        order.swap(place, random.within(0..=place as u32) as usize);
+    }
+    let mut written = Written { text: String::new(), head: vec![0; 5], curves: vec![] };
+    let mut line = 1;
+    let (mut head, mut curves) = (order.into_iter().peekable(), curves.into_iter().peekable());
+    while head.peek().is_some() || curves.peek().is_some() {
+        match random.within(0..=9) {
+            0 => written.text += random.one_of(&["\n", "# speed 10 km/h\n", " \t#\n", "\r\n"]),
+            1..=5 => {
+                let Some((place, item)) = head.next() else { continue };
+                written.head[place] = line;
+                written.text += &spaced(random, &item);
+            }
+            _ => {
+                let Some(item) = curves.next() else { continue };
+                written.curves.push(line);
+                written.text += &spaced(random, &item);
+            }
+        }
+        line += 1;
+    }
+    written
+}
+
+/// A line with other spaces, and now and then a comment.
+fn spaced(random: &mut Random, item: &str) -> String {
+    let space = random.one_of(&[" ", "  ", "\t"]);
+    let end = random.one_of(&["\n", "\r\n", " \n", "# curve 1 m\n", " # \u{fffd} 5 %\n"]);
+    let begin = random.one_of(&["", "", " ", "\t"]);
+    format!("{begin}{}{end}", item.replace(' ', space))
+}
+
+#[test]
+fn texts_beside_the_road_files() {
+    let folder = Path::new(env!("CARGO_MANIFEST_DIR")).join("../../roads");
+    let mut names: Vec<_> =
+        fs::read_dir(&folder).expect("roads is a folder").map(|entry| entry.unwrap().path()).collect();
+    names.retain(|path| path.extension().is_some_and(|ending| ending == "txt"));
+    names.sort_unstable();
+    let stems: Vec<_> = names.iter().map(|path| path.file_stem().unwrap().to_str().unwrap()).collect();
+    assert_eq!(stems, ["example", "level", "three-crests"]);
+    for path in &names {
+        let text = fs::read_to_string(path).expect("a text");
+        let file = fs::read(path.with_extension("vcp")).expect("a road file stands beside its text");
+        assert_eq!(road_file(&text).as_ref(), Ok(&file), "{}", path.display());
+        let items = |text: &str| -> Vec<String> {
+            let lines = text.lines().map(|line| line.split('#').next().unwrap_or_default().trim_end().to_string());
+            lines.filter(|line| !line.is_empty()).collect()
+        };
+        assert_eq!(items(&road_text(&file).expect("the road is accepted")), items(&text), "{}", path.display());
+    }
+}
+
+/// From bytes to text and back nothing is lost; and a text that was not written by the program is read as it stands.
+#[test]
+fn random_roads_there_and_back() {
+    let mut random = Random::new(51);
+    let (mut curves, mut negative, mut fractions) = (0, 0, 0);
+    for _ in 0..5_000 {
+        let road = roads::any_road(&mut random);
+        let file = bytes(&road);
+        let text = road_text(&file).expect("the road is accepted");
+        assert_eq!(road_file(&text), Ok(file.clone()), "{text}");
+        let Written { text, .. } = write(&mut random, &road);
+        assert_eq!(road_file(&text), Ok(file), "{text}");
+        curves += road.curves.len();
+        negative += usize::from(road.start_height < 0);
+        fractions += usize::from(road.start_height % 10_000 != 0);
+    }
+    assert!(curves > 40_000 && negative > 1_000 && fractions > 2_000, "{curves}, {negative}, {fractions}");
+}
+
+/// Every grade, and every small height, where the sign and the zeros matter.
+#[test]
+fn every_grade_and_small_heights() {
+    let mut random = Random::new(52);
+    let mut road = Road {
+        speed: 80,
+        purpose: 1,
+        length: 1,
+        start_height: 0,
+        first_grade: 0,
+        curves: vec![Curve { pvi: 1, length: 0, grade_out: 0 }],
+    };
+    for number in -1_500..=1_500 {
+        road.first_grade = number;
+        road.curves[0].grade_out = -number;
+        road.start_height = i32::from(number) * random.one_of(&[1, 10, 100, 1_000, 6_666]);
+        let file = bytes(&road);
+        let text = road_text(&file).expect("the road is accepted");
+        let hundredths =
+            format!("{}{}.{:02}", if number < 0 { "-" } else { "" }, number.abs() / 100, number.abs() % 100);
+        assert!(text.contains(&format!("\nfirst grade {hundredths} %\n")), "{text}");
+        assert_eq!(road_file(&text), Ok(file.clone()), "{text}");
+        assert_eq!(road_file(&write(&mut random, &road).text), Ok(file), "{road:?}");
+    }
+}
+
+/// The program's own text, byte by byte.
+#[test]
+fn text_of_a_road() {
+    let road = Road {
+        speed: 130,
+        purpose: 5,
+        length: 8_000,
+        start_height: -50,
+        first_grade: -5,
+        curves: vec![
+            Curve { pvi: 1_000, length: 2_000, grade_out: 1_500 },
+            Curve { pvi: 2_000, length: 0, grade_out: -1_010 },
+        ],
+    };
+    let text = "\
+speed 130 km/h
+purpose 5
+length 8000 m
+start height -0.005 m
+first grade -0.05 %
+# PVI, length, grade out
+curve 1000 m, 2000 m, 15.00 %
+curve 2000 m, 0 m, -10.10 %
+";
+    assert_eq!(road_text(&bytes(&road)).as_deref(), Ok(text));
+    for (start_height, height) in [(0, "0.00"), (1, "0.0001"), (-10_000_000, "-1000.00"), (89_999_990, "8999.999")] {
+        let text = road_text(&bytes(&Road { start_height, ..road.clone() })).expect("the road is accepted");
+        assert!(text.contains(&format!("\nstart height {height} m\n")), "{text}");
+    }
+}
+
+const GOOD: [&str; 7] = [
+    "speed 80 km/h",
+    "purpose 1",
+    "length 1000 m",
+    "start height 0 m",
+    "first grade 3 %",
+    "curve 100 m, 20 m, -3 %",
+    "curve 200 m, 0 m, 1.5 %",
+];
+
+const NAMES: [&str; 5] = ["speed", "purpose", "length", "start height", "first grade"];
+
+fn fault(line: usize, reason: &str) -> Fault {
+    Fault { line, reason: reason.to_string() }
+}
+
+/// The good text with one line changed has this fault, on that line, and no other.
+fn expect(line: usize, text: &str, reason: &str) {
+    let mut lines = GOOD;
+    lines[line - 1] = text;
+    assert_eq!(road_file(&lines.join("\n")), Err(vec![fault(line, reason)]), "{text}");
+}
+
+#[test]
+fn unknown_words() {
+    let known = "a line begins with speed, purpose, length, start height, first grade or curve";
+    for text in ["kurve 1 m, 0 m, 0 %", "curves 1 m, 0 m, 0 %", "Curve 1 m, 0 m, 0 %", "start 1 m", "90", "+"] {
+        expect(6, text, &format!("unknown words in \"{text}\": {known}"));
+    }
+    expect(6, "  start\theight:\u{7}1 m # x", &format!("unknown words in \"start height:\\u{{7}}1 m\": {known}"));
+}
+
+#[test]
+fn repeated_lines() {
+    for (first, (text, name)) in (1..).zip(GOOD.into_iter().zip(NAMES)) {
+        expect(7, text, &format!("{name} stands on line {first} already"));
+    }
+}
+
+#[test]
+fn numbers_that_are_none() {
+    for number in
+        ["ten", "+8", "--8", "-", "8O", "8-", "٣", "−3", "1,000", "1.", ".5", "1.2.3", "1e3", "0x50", "8_0", "8m"]
+    {
+        expect(1, &format!("speed {number} km/h"), &format!("speed: {number:?} is no number"));
+        expect(2, &format!("purpose {number}"), &format!("purpose: {number:?} is no number"));
+        expect(4, &format!("start height {number} m"), &format!("start height: {number:?} is no number"));
+    }
+    expect(1, "speed", "speed: the number is missing");
+    expect(1, "speed km/h", "speed: \"km/h\" is no number");
+    expect(6, "curve 100 m,, -3 %", "curve length: the number is missing");
+    expect(6, "curve 100 m, 20 m, three %", "grade out: \"three\" is no number");
+}
+
+#[test]
+fn too_many_decimals() {
+    expect(1, "speed 80.0 km/h", "speed: \"80.0\" is not whole");
+    expect(3, "length 1000.5 m", "length: \"1000.5\" is not whole");
+    expect(4, "start height 0.00000 m", "start height: \"0.00000\" has more than 4 decimals");
+    expect(5, "first grade -3.001 %", "first grade: \"-3.001\" has more than 2 decimals");
+    expect(6, "curve 100.0 m, 20 m, -3 %", "PVI: \"100.0\" is not whole");
+    expect(6, "curve 100 m, 2.5 m, -3 %", "curve length: \"2.5\" is not whole");
+    expect(6, "curve 100 m, 20 m, 3.333 %", "grade out: \"3.333\" has more than 2 decimals");
+}
+
+#[test]
+fn wrong_units() {
+    expect(1, "speed 80", "speed: the unit km/h is missing");
+    expect(1, "speed 80 mph", "speed: the unit is km/h, not \"mph\"");
+    expect(1, "speed 80 km/h 3", "speed: the unit is km/h, not \"km/h 3\"");
+    expect(2, "purpose 1 m", "purpose: \"m\" stands behind a number that has no unit");
+    expect(3, "length 1 km", "length: the unit is m, not \"km\"");
+    expect(5, "first grade 3", "first grade: the unit % is missing");
+    expect(6, "curve 100 m, 20, -3 %", "curve length: the unit m is missing");
+    expect(6, "curve 100 m, 20 m, -3 m", "grade out: the unit is %, not \"m\"");
+}
+
+/// A number that the file has no room for is refused by the room that it has.
+#[test]
+fn numbers_that_do_not_fit() {
+    let byte = ["0", "255", "-1", "256"];
+    let two_bytes = ["0", "65535", "-1", "65536"];
+    let height = ["-214748.3648", "214748.3647", "-214748.3649", "214748.3648"];
+    let grade = ["-327.68", "327.67", "-327.69", "327.68"];
+    for (line, name, begin, end, [least, greatest, below, above]) in [
+        (1, "speed", "speed ", " km/h", byte),
+        (2, "purpose", "purpose ", "", byte),
+        (3, "length", "length ", " m", two_bytes),
+        (4, "start height", "start height ", " m", height),
+        (5, "first grade", "first grade ", " %", grade),
+        (6, "PVI", "curve ", " m, 20 m, -3 %", two_bytes),
+        (6, "curve length", "curve 100 m, ", " m, -3 %", two_bytes),
+        (6, "grade out", "curve 100 m, 20 m, ", " %", grade),
+    ] {
+        for number in [below, above, "-9223372036854775809", "99999999999999999999999999999999"] {
+            let reason = format!("does not fit the road file, which has room for {least} to {greatest}");
+            expect(line, &format!("{begin}{number}{end}"), &format!("{name}: {number:?} {reason}"));
+        }
+        // What the file has room for is left to the proved reader.
+        for number in [least, greatest] {
+            let mut lines = GOOD.map(str::to_string);
+            lines[line - 1] = format!("{begin}{number}{end}");
+            let faults = road_file(&lines.join("\n")).err().unwrap_or_default();
+            assert!(faults.iter().all(|fault| fault.reason.starts_with("refused ")), "{faults:?}");
+        }
+    }
+}
+
+#[test]
+fn curves_of_other_than_three_parts() {
+    for text in ["curve", "curve 100 m", "curve 100 m, 20 m", "curve 100 m 20 m -3 %", "curve 100 m, 20 m, -3,0 %"] {
+        expect(6, text, "a curve has three parts between commas: its PVI, its length and its grade out");
+    }
+}
+
+#[test]
+fn missing_lines() {
+    for (place, name) in NAMES.into_iter().enumerate() {
+        let mut lines = GOOD;
+        lines[place] = "# nothing";
+        assert_eq!(road_file(&lines.join("\n")), Err(vec![fault(7, &format!("the line {name} is missing"))]));
+    }
+    for text in ["", "\n", "# nothing"] {
+        let all = NAMES.map(|name| fault(1, &format!("the line {name} is missing")));
+        assert_eq!(road_file(text), Err(all.to_vec()));
+    }
+}
+
+/// All lines that cannot be read are reported, in their order.
+#[test]
+fn several_bad_lines() {
+    let text = "speed 80\nspeed 80 km/h\n\npurpose one\nlength 10 m\ncurve 1 m\nfirst grade 0 %\n";
+    let expected = [
+        fault(1, "speed: the unit km/h is missing"),
+        fault(2, "speed stands on line 1 already"),
+        fault(4, "purpose: \"one\" is no number"),
+        fault(6, "a curve has three parts between commas: its PVI, its length and its grade out"),
+        fault(7, "the line start height is missing"),
+    ];
+    assert_eq!(road_file(text), Err(expected.to_vec()));
+}
+
+/// The line that the second calculation would blame, with its refusal's number.
+fn blamed(road: &Road, written: &Written) -> Option<(usize, u32)> {
+    let first = |curves: usize| Road { curves: road.curves[..curves].to_vec(), ..road.clone() };
+    let (curves, refusal) =
+        (0..=road.curves.len()).find_map(|curves| Some((curves, verdict(&first(curves)).err()?)))?;
+    let line = if curves == 0 { written.head[refusal as usize - 6] } else { written.curves[curves - 1] };
+    Some((line, refusal))
+}
+
+/// A road that the proved reader refuses is reported with the line at fault and the refusal's number and words.
+#[test]
+fn refused_roads() {
+    let mut random = Random::new(53);
+    let (mut met, mut of_curves) = ([0; 14], 0);
+    for _ in 0..5_000 {
+        let mut road = roads::any_road(&mut random);
+        let mut refusals: Vec<u32> = (0..random.within(1..=3)).map(|_| random.within(6..=13)).collect();
+        // The higher numbers first, so that a curve is spoilt on a road whose other numbers are still good.
+        refusals.sort_unstable_by(|one, other| other.cmp(one));
+        for refusal in refusals {
+            roads::spoil_road(&mut random, &mut road, refusal);
+        }
+        let written = write(&mut random, &road);
+        let Some((line, refusal)) = blamed(&road, &written) else { continue };
+        let faults = road_file(&written.text).expect_err("the road is refused");
+        let [Fault { line: at, reason }] = &faults[..] else { panic!("{faults:?}") };
+        assert_eq!(*at, line, "{reason}\n{}", written.text);
+        assert!(reason.starts_with(&format!("refused {refusal}: ")), "{reason}\n{}", written.text);
+        met[refusal as usize] += 1;
+        of_curves += usize::from(written.curves.contains(&line));
+    }
+    assert!(met[6..].iter().all(|&many| many > 100) && of_curves > 500, "{met:?}, {of_curves} of curves");
+}
+
+#[test]
+fn one_curve_too_many() {
+    for curves in [32, 33, 34, 255, 256, 257, 300, 1_000] {
+        let mut lines = GOOD[..5].to_vec();
+        lines.extend(vec!["curve 500 m, 0 m, 0 %"; curves]);
+        let answer = road_file(&lines.join("\n"));
+        if curves == 32 {
+            assert!(answer.is_ok());
+        } else {
+            assert_eq!(answer, Err(vec![fault(5 + 33, "refused 4: there are more than 32 curves")]), "{curves}");
+        }
+    }
+}
+
+/// Damaged files have no text: they are refused by their numbers.
+#[test]
+fn damaged_files() {
+    let mut random = Random::new(54);
+    let mut met = [0; 14];
+    for round in 0..5_000 {
+        let file = match round % 14 {
+            0 => roads::noise(&mut random),
+            refusal => roads::faulty_file(&mut random, &[refusal]),
+        };
+        match read(&file) {
+            Err(refusal) => {
+                assert_eq!(road_text(&file).map_err(|refusal| refusal.number()), Err(refusal), "{file:02X?}");
+                met[refusal as usize] += 1;
+            }
+            Ok(_) => assert_eq!(road_file(&road_text(&file).expect("it is accepted")), Ok(file)),
+        }
+    }
+    assert!(met[1..].iter().all(|&many| many > 200), "{met:?}");
+}
