@@ -92,7 +92,8 @@ pub fn crest_length(drop: u32, sight: u32, eye: u32, object: u32) -> Result<u32,
 }
 
 /// Writes the mark of each station of a road file's road, from station 0 on, and answers how many stations there are. Places
-/// behind the last station stay as they were. Marks of [`MOST_STATIONS`] places are enough for any road.
+/// behind the last station stay as they were. Marks of [`MOST_STATIONS`] places are enough for any road. The call needs about
+/// 40 KiB of the thread's stack.
 ///
 /// The bits of a mark, each beside its letter in a listing:
 ///
