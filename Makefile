@@ -39,7 +39,7 @@ target/bin/lister: crates.txt $(shell find crates -type f)
 	touch $@
 
 # Turns a text into a road file (rust/roadtext): TEXT with the ending .vcp, or the ROAD of the command line. The default of
-# ROAD is no place to write to.
+# ROAD is no place to write to. A library that is there judges the road as it is.
 road: ROAD :=
 road: textable tools target/staticlib/libvan.a
 	$(roadtext) road "$(TEXT)" $(if $(ROAD),"$(ROAD)")

@@ -56,11 +56,12 @@ impl Field {
         }
     }
 
-    /// A number as a text has it, with its unit: a height with at least two decimals, a grade with two.
+    /// A number as a text has it, with its unit. One that may have decimals has at least two.
     pub fn text(&self, number: i64) -> String {
         format!("{} {}", self.decimal(number), self.unit).trim_end().to_string()
     }
 
+    /// A number in decimals, from units of the last one.
     fn decimal(&self, number: i64) -> String {
         let digits = format!("{:0>width$}", number.unsigned_abs(), width = self.decimals + 1);
         let (whole, decimals) = digits.split_at(digits.len() - self.decimals);
@@ -85,7 +86,7 @@ impl Field {
             return Err("the number is missing".to_string());
         }
         let size = text.strip_prefix('-').unwrap_or(text);
-        let (whole, decimals) = size.split_once('.').map_or((size, None), |(whole, behind)| (whole, Some(behind)));
+        let (whole, decimals) = size.split_once('.').map_or((size, None), |(whole, decimals)| (whole, Some(decimals)));
         let digits = |part: &str| !part.is_empty() && part.bytes().all(|letter| letter.is_ascii_digit());
         if !digits(whole) || !decimals.is_none_or(digits) {
             return Err(format!("{text:?} is no number"));
@@ -111,7 +112,7 @@ impl Field {
         match (unit, self.unit) {
             (unit, own) if unit == own => Ok(()),
             ("", own) => Err(format!("the unit {own} is missing")),
-            (unit, "") => Err(format!("{unit:?} stands behind a number that has no unit")),
+            (unit, "") => Err(format!("{unit:?} follows a number that has no unit")),
             (unit, own) => Err(format!("the unit is {own}, not {unit:?}")),
         }
     }

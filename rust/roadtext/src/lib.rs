@@ -1,7 +1,7 @@
 //! A road as a text that is easy to read and to write, turned into a road file and back.
 //!
 //! ```text
-//! # Two crests
+//! # A crest, and a break in grade further on
 //! speed 90 km/h
 //! purpose 1
 //! length 1500 m
@@ -15,8 +15,8 @@
 //! - Each line holds one item; blank lines and all that follows a `#` are passed over.
 //! - Speed, purpose, length, start height and first grade stand once each, in any order.
 //! - Curves are those of the road in their order, each with its PVI, its length and its grade out between commas.
-//! - A number is decimal digits, behind a minus if it is negative; a space and its unit follow, as above.
-//! - The start height may have up to 4 decimals behind a point, and a grade up to 2. All other numbers are whole.
+//! - A number is decimal digits, after a minus if it is negative; a space and its unit follow, as above.
+//! - The start height may have up to 4 decimals after a point, and a grade up to 2. All other numbers are whole.
 //!
 //! The purposes 1 to 5 are the decisions A to E. Which numbers a road may have, and where its curves may lie, is no matter
 //! of the text: the proved reader of road files judges the file that is made, and what it refuses is reported with the line

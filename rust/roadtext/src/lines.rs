@@ -31,12 +31,12 @@ impl Items {
         if text.is_empty() {
             return Ok(());
         }
-        if let Some(numbers) = behind("curve", &text) {
+        if let Some(numbers) = after("curve", &text) {
             self.curves.push(Placed { line, item: curve(numbers)? });
             return Ok(());
         }
         let mut head = HEAD.iter().zip(&mut self.head);
-        let found = head.find_map(|(field, place)| Some((field, place, behind(field.name, &text)?)));
+        let found = head.find_map(|(field, place)| Some((field, place, after(field.name, &text)?)));
         let Some((field, place, number)) = found else {
             let names = HEAD.map(|field| field.name).join(", ");
             return Err(format!("unknown words in {text:?}: a line begins with {names} or curve"));
@@ -44,15 +44,15 @@ impl Items {
         if let Some(first) = place {
             return Err(format!("{} stands on line {} already", field.name, first.line));
         }
-        // Also where its number is at fault the line is there.
+        // The line is there, even if its number is at fault.
         let item = field.read(number);
         *place = Some(Placed { line, item: *item.as_ref().unwrap_or(&0) });
         item.map(drop)
     }
 }
 
-/// What a line has behind its first words, if it begins with these.
-fn behind<'a>(words: &str, text: &'a str) -> Option<&'a str> {
+/// What follows a line's first words, if it begins with these.
+fn after<'a>(words: &str, text: &'a str) -> Option<&'a str> {
     match text.strip_prefix(words)? {
         "" => Some(""),
         others => others.strip_prefix(' '),

@@ -24,9 +24,9 @@ fn read(path: &Path) -> Result<Vec<u8>, Lines> {
 /// Writes a file whole or not at all: under a name of its own beside its place, and then renamed.
 fn write_whole(path: &Path, bytes: &[u8]) -> io::Result<()> {
     if fs::symlink_metadata(path).is_ok_and(|there| !there.is_file()) {
-        return Err(io::Error::other("something else than a plain file stands there"));
+        return Err(io::Error::other("what stands there is no plain file"));
     }
-    let name = path.file_name().ok_or_else(|| io::Error::other("this is no name of a file"))?;
+    let name = path.file_name().ok_or_else(|| io::Error::other("it names no file"))?;
     let own_name = [OsStr::new("."), name, OsStr::new(&format!(".{}", process::id()))].join(OsStr::new(""));
     let beside = path.with_file_name(own_name);
     let mut file = File::create_new(&beside)?;

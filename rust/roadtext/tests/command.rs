@@ -112,8 +112,8 @@ fn files_that_cannot_be_read_or_written() {
     fs::write(folder.join("a.txt"), GOOD).unwrap();
     expect_error(&folder, &["road", "a.txt", "no/a"], "no/a: No such file or directory (os error 2)\n");
     fs::create_dir(folder.join("a.vcp")).unwrap();
-    expect_error(&folder, &["road", "a.txt"], "a.vcp: something else than a plain file stands there\n");
-    expect_error(&folder, &["road", "a.txt", ".."], "..: something else than a plain file stands there\n");
+    expect_error(&folder, &["road", "a.txt"], "a.vcp: what stands there is no plain file\n");
+    expect_error(&folder, &["road", "a.txt", ".."], "..: what stands there is no plain file\n");
     expect_error(&folder, &["road", "a.txt", "./a.txt"], "./a.txt: the road file would replace its text\n");
     fs::write(folder.join("text.vcp"), GOOD).unwrap();
     expect_error(&folder, &["road", "text.vcp"], "text.vcp: the road file would replace its text\n");

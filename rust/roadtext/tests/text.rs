@@ -24,16 +24,16 @@ fn decimal(random: &mut Random, number: i64, decimals: usize) -> String {
     text
 }
 
-/// A road's lines in any order that keeps the order of the curves, with other lines between: first those of speed, purpose,
-/// length, start height and first grade, then those of the curves, each with the number where it stands.
+/// A text, and the lines where speed, purpose, length, start height and first grade stand, and those of the curves.
 struct Written {
     text: String,
-    head: Vec<usize>,
+    head: [usize; 5],
     curves: Vec<usize>,
 }
 
+/// Writes a road in its own way: the lines in any order that keeps that of the curves, with other lines between.
 fn write(random: &mut Random, road: &Road) -> Written {
-    let mut head = vec![
+    let head = [
         format!("speed {} km/h", road.speed),
         format!("purpose {}", road.purpose),
         format!("length {} m", road.length),
@@ -45,11 +45,11 @@ fn write(random: &mut Random, road: &Road) -> Written {
         format!("curve {} m, {} m, {grade_out} %", curve.pvi, curve.length)
     });
     let curves: Vec<String> = curves.collect();
-    let mut order: Vec<(usize, String)> = head.drain(..).enumerate().collect();
+    let mut order: Vec<(usize, String)> = head.into_iter().enumerate().collect();
     for place in (1..5).rev() {
         order.swap(place, random.within(0..=place as u32) as usize);
     }
-    let mut written = Written { text: String::new(), head: vec![0; 5], curves: vec![] };
+    let mut written = Written { text: String::new(), head: [0; 5], curves: vec![] };
     let mut line = 1;
     let (mut head, mut curves) = (order.into_iter().peekable(), curves.into_iter().peekable());
     while head.peek().is_some() || curves.peek().is_some() {
@@ -143,6 +143,23 @@ fn every_grade_and_small_heights() {
         assert_eq!(road_file(&text), Ok(file.clone()), "{text}");
         assert_eq!(road_file(&write(&mut random, &road).text), Ok(file), "{road:?}");
     }
+}
+
+/// The example of the format in the package's first comment is a road.
+#[test]
+fn example_of_the_format() {
+    let comment = include_str!("../src/lib.rs").lines().map_while(|line| line.strip_prefix("//!"));
+    let example = comment.skip_while(|line| *line != " ```text").skip(1).take_while(|line| *line != " ```");
+    let text = example.collect::<Vec<_>>().join("\n");
+    let road = Road {
+        speed: 90,
+        purpose: 1,
+        length: 1_500,
+        start_height: 1_025_000,
+        first_grade: 400,
+        curves: vec![Curve { pvi: 480, length: 60, grade_out: -200 }, Curve { pvi: 900, length: 0, grade_out: -275 }],
+    };
+    assert_eq!(road_file(&text), Ok(bytes(&road)));
 }
 
 /// The program's own text, byte by byte.
@@ -246,7 +263,7 @@ fn wrong_units() {
     expect(1, "speed 80", "speed: the unit km/h is missing");
     expect(1, "speed 80 mph", "speed: the unit is km/h, not \"mph\"");
     expect(1, "speed 80 km/h 3", "speed: the unit is km/h, not \"km/h 3\"");
-    expect(2, "purpose 1 m", "purpose: \"m\" stands behind a number that has no unit");
+    expect(2, "purpose 1 m", "purpose: \"m\" follows a number that has no unit");
     expect(3, "length 1 km", "length: the unit is m, not \"km\"");
     expect(5, "first grade 3", "first grade: the unit % is missing");
     expect(6, "curve 100 m, 20, -3 %", "curve length: the unit m is missing");

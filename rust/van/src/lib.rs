@@ -5,7 +5,7 @@
 //! // A driver at 80 km/h stops within 130 m.
 //! let sight = vcp::required_distance(80, 0)?;
 //! assert_eq!(sight, 130);
-//! // A crest where the grade drops by 6 % is at least 156 m long if the driver is to see so far.
+//! // For the driver to see so far over a crest where the grade drops by 6 %, it is at least 156 m long.
 //! assert_eq!(vcp::crest_length(600, sight, 10_800, 6_000)?, 156);
 //! # Ok::<(), vcp::Refusal>(())
 //! ```
@@ -32,10 +32,10 @@ pub const DECISION_LACKING: u8 = 1 << 1;
 /// and has its stopping sight.
 pub const REDUCED_DECISION: u8 = 1 << 2;
 
-/// Bit 3 of a mark, letter s: the station is not judged for stopping, as the road ends too soon behind it.
+/// Bit 3 of a mark, letter s: the station is not judged for stopping, as the road ends too soon after it.
 pub const STOPPING_NOT_JUDGED: u8 = 1 << 3;
 
-/// Bit 4 of a mark, letter d: the station is not judged for the decision, as the road ends too soon behind it.
+/// Bit 4 of a mark, letter d: the station is not judged for the decision, as the road ends too soon after it.
 pub const DECISION_NOT_JUDGED: u8 = 1 << 4;
 
 /// As many stations as a road can have: marks of this length have a place for each station of any road.
@@ -92,8 +92,8 @@ pub fn crest_length(drop: u32, sight: u32, eye: u32, object: u32) -> Result<u32,
 }
 
 /// Writes the mark of each station of a road file's road, from station 0 on, and answers how many stations there are. Places
-/// behind the last station stay as they were. Marks of [`MOST_STATIONS`] places are enough for any road. The call needs about
-/// 40 KiB of the thread's stack.
+/// beyond those stay as they were. Marks of [`MOST_STATIONS`] places are enough for any road. The call needs about 40 KiB of
+/// the thread's stack.
 ///
 /// The bits of a mark, each beside its letter in a listing:
 ///
