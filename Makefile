@@ -70,7 +70,7 @@ need = $(if $(shell ($1) >/dev/null 2>&1 && echo holds),,$(error $2))
 tools:
 	$(call need,command -v rt,rt is not on the path: install $(KIT))
 	$(call need,[ "$$(rt version)" = "$(KIT)" ],rt is of another kit: install $(KIT))
-	$(call need,command -v cargo,cargo is not on the path: install Rust for the tests)
+	$(call need,command -v cargo,cargo is not on the path: install Rust)
 
 fmt:
 	rt fmt
