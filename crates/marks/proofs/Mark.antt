@@ -76,6 +76,13 @@ sum-cong true decide s d s′ d′ p = rw (p tt .0, p tt .1) refl
 sum-cong false true s d s′ d′ p = rw (p tt .1) refl
 sum-cong false false s d s′ d′ p = refl
 
+-- stopping that is judged and does not lack is there
+stopping-there : (decide d stop s : Bool) → (decide && d) && stop && not (stop && s) ≡ decide && d && (stop && not s)
+stopping-there true true true s = refl
+stopping-there true true false s = refl
+stopping-there true false stop s = refl
+stopping-there false d stop s = refl
+
 -- the sight that a mark is made by
 abbrev markSight : List ℤ → ℕ → ℕ → ℕ
 markSight list i far = availableSight list i eyeHeight objectHeight far
@@ -92,14 +99,15 @@ module _ (list : List ℤ) (i : ℕ) where
       sum
       (judged list stopping i && ltb s stopping)
       (judged list decision i && ltb s decision)
-      (judged list decision i && ltb s decision && (judged list stopping i && not (ltb s stopping)))
+      ((judged list decision i && ltb s decision) && judged list stopping i && not (judged list stopping i && ltb s stopping))
       (not (judged list stopping i))
       (not (judged list decision i))
       ≡ markOf list stopping decision i
   unfolding markOf
   mark-by-sight stopping decision far s l m e =
-      sum-cong (judged list stopping i) (judged list decision i) _ _ _ _
-      (λ t. (rw (e t) (lacking-farther stopping far l), rw (e t) (lacking-farther decision far m)))
+      rw (stopping-there (judged list decision i) (ltb s decision) (judged list stopping i) (ltb s stopping))
+      (sum-cong (judged list stopping i) (judged list decision i) _ _ _ _
+      (λ t. (rw (e t) (lacking-farther stopping far l), rw (e t) (lacking-farther decision far m))))
 
   -- the metres of a sight that is asked for in its ranges; up to 0 m, where asking is refused, there are none
   pub sight-metres : (far : ℕ) → i < length list → length list ≤ greatestList → far ≤ greatestFarthest →

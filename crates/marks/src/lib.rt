@@ -61,17 +61,19 @@ fn mark_of(heights: &[i32], stopping: u32, decision: u32, i: usize) -> u8
     };
     let lacks_stop = stop & (s < stopping);
     let lacks_decision = decide & (s < decision);
-    let reduced = lacks_decision & (stop & !(s < stopping));
+    let reduced = lacks_decision & stop & !lacks_stop;
     compose(lacks_stop, lacks_decision, reduced, !stop, !decide)
 }
 
-// Each station's mark, into the place of the station.
+// Each station's mark, into the place of the station, from the last station back.
 fn fill_marks(heights: &[i32], stopping: u32, decision: u32, list: &mut [u8])
     requires { ⌜ (length (now heights) ≤ length (now list)) × (length (now heights) ≤ greatestList) ⌝ }
     requires { ⌜ (stopping ≤ greatestFarthest) × (decision ≤ greatestFarthest) ⌝ }
     ensures { λ r. ⌜ now (list .exit) ≡ filled (markOf (now (heights .entry)) stopping decision) 0 (length (now (heights .entry))) (now (list .entry)) ⌝ }
 {
-    for i in 0..heights.len() {
+    let mut i = heights.len();
+    while i > 0 {
+        i -= 1;
         list[i] = mark_of(heights, stopping, decision, i);
     }
 }

@@ -2,9 +2,8 @@
 -- A line goes from the eye to a point t metres ahead. Its slope is its rise over t, and slopes are compared by products.
 use mathlib.Core.Path.{_≡_}
 use mathlib.Core.Logic.{⊎-elim}
-use Prim.Native.Nat.{ℕ, _+_, _-_, _≤_, _<_}
+use Prim.Native.Nat.{ℕ, suc, _+_, _-_, _≤_, _<_}
 use native.Mathlib.Nat.{eq-or-lt-of-le, le-refl}
-use native.Mathlib.Numerals.{add-one}
 use native.Mathlib.Omega.{arith}
 use lib.Dec.{T}
 use lib.IntN.{ℤ, pos, _+ℤ_, _-ℤ_, _*ℤ_}
@@ -72,95 +71,98 @@ module _ (h : ℕ → ℤ) (e o i n : ℕ) where
       (rw (p, q) at (g (i + t) (omega arith) (omega arith)))
 
 -- ---- the steepest line
--- of the next s stations none lies above the line to the road `run` metres ahead
-pub record Steepest (h : ℕ → ℤ) (e i run s : ℕ) : Type 0 where
+-- of the stations less than `next` metres ahead none lies above the line to the road `run` metres ahead
+pub record Steepest (h : ℕ → ℤ) (e i run next : ℕ) : Type 0 where
   pub ahead : 0 < run
-  pub within : run ≤ s
-  pub each : (t : ℕ) → 0 < t → t ≤ s → NoSteeper (rise h e i t) t (rise h e i run) run
+  pub before : run < next
+  pub each : (t : ℕ) → 0 < t → t < next → NoSteeper (rise h e i t) t (rise h e i run) run
 
 module _ {h : ℕ → ℤ} {e i : ℕ} where
-  pub steepest-one : Steepest h e i 1 1
+  pub steepest-one : Steepest h e i 1 2
   steepest-one = record {
     ahead = omega arith;
-    within = omega arith;
+    before = omega arith;
     each = λ t l r. let q : t ≡ 1 = omega arith in rw q (≤ℤ-refl _);
   }
 
-  module _ {run s : ℕ} (st : Steepest h e i run s) where
+  module _ {run next : ℕ} (st : Steepest h e i run next) where
     -- where the next station is as steep, the line to it is the steepest
-    pub steepest-next : NoSteeper (rise h e i run) run (rise h e i (s + 1)) (s + 1) → Steepest h e i (s + 1) (s + 1)
+    pub steepest-next : NoSteeper (rise h e i run) run (rise h e i next) next → Steepest h e i next (next + 1)
     steepest-next f = record {
-      ahead = omega arith;
-      within = omega arith;
+      ahead = omega (arith, st .before);
+      before = omega arith;
       each = λ t l r.
           ⊎-elim
           (λ q. rw q (≤ℤ-refl _))
-          (λ q. slope-trans (rise h e i t) (rise h e i (s + 1)) (rise h e i run) t run (s + 1) (st .ahead) (st .each t l (omega arith)) f)
-          (eq-or-lt-of-le {n = t} {m = s + 1} r);
+          (λ q. slope-trans (rise h e i t) (rise h e i next) (rise h e i run) t run next (st .ahead) (st .each t l q) f)
+          (eq-or-lt-of-le {n = t} {m = next} (omega arith));
     }
 
     -- where it is not, the line stays
-    pub steepest-stays : NoSteeper (rise h e i (s + 1)) (s + 1) (rise h e i run) run → Steepest h e i run (s + 1)
+    pub steepest-stays : NoSteeper (rise h e i next) next (rise h e i run) run → Steepest h e i run (next + 1)
     steepest-stays f = record {
       ahead = st .ahead;
-      within = omega (arith, st .within);
-      each = λ t l r.
-          ⊎-elim (λ q. rw q f) (λ q. st .each t l (omega arith)) (eq-or-lt-of-le {n = t} {m = s + 1} r);
+      before = omega (arith, st .before);
+      each = λ t l r. ⊎-elim (λ q. rw q f) (λ q. st .each t l q) (eq-or-lt-of-le {n = t} {m = next} (omega arith));
     }
 
--- ---- a search that has passed s stations
--- they are all seen, and the steepest line is known
-pub record Passed (h : ℕ → ℤ) (e o i run s : ℕ) : Type 0 where
-  pub steepest : Steepest h e i run s
-  pub seen-all : (t : ℕ) → 0 < t → t ≤ s → T (seen h e o i (i + t))
+-- ---- a search that comes to the station `next` metres ahead
+-- all before it are seen, and the steepest line to them is known
+pub record Passed (h : ℕ → ℤ) (e o i run next : ℕ) : Type 0 where
+  pub steepest : Steepest h e i run next
+  pub seen-all : (t : ℕ) → 0 < t → t < next → T (seen h e o i (i + t))
 
 module _ {h : ℕ → ℤ} {e o i : ℕ} where
-  pub passed-one : Passed h e o i 1 1
+  pub passed-one : Passed h e o i 1 2
   passed-one = record {
     steepest = steepest-one;
     seen-all = λ t l r. seen-by h e o i (i + t) (λ k p q. absurd (omega arith));
   }
 
-  module _ {run s : ℕ} (w : Passed h e o i run s) where
+  module _ {run next : ℕ} (w : Passed h e o i run next) where
     -- an object on the steepest line or above it is seen
-    seen-above : NoSteeper (rise h e i run) run (rise h e i (s + 1) +ℤ pos o) (s + 1) →
-        (t : ℕ) → 0 < t → t ≤ s + 1 → T (seen h e o i (i + t))
+    seen-above : NoSteeper (rise h e i run) run (rise h e i next +ℤ pos o) next →
+        (t : ℕ) → 0 < t → t < next + 1 → T (seen h e o i (i + t))
     seen-above f t l r =
-        let st = w .steepest in let object = rise h e i (s + 1) +ℤ pos o in
+        let st = w .steepest in let object = rise h e i next +ℤ pos o in
         ⊎-elim
-        (λ q. rw q (seen-by h e o i (i + (s + 1)) (seen-by-slopes h e o i (s + 1)
-        (λ u m v. slope-trans (rise h e i u) object (rise h e i run) u run (s + 1) (st .ahead) (st .each u m (omega arith)) f))))
-        (λ q. w .seen-all t l (omega arith))
-        (eq-or-lt-of-le {n = t} {m = s + 1} r)
+        (λ q. rw q (seen-by h e o i (i + next) (seen-by-slopes h e o i next
+        (λ u m v. slope-trans (rise h e i u) object (rise h e i run) u run next (st .ahead) (st .each u m v) f))))
+        (λ q. w .seen-all t l q)
+        (eq-or-lt-of-le {n = t} {m = next} (omega arith))
 
     -- the next station's road is on the line or above it
-    pub passed-steep : NoSteeper (rise h e i run) run (rise h e i (s + 1)) (s + 1) → Passed h e o i (s + 1) (s + 1)
+    pub passed-steep : NoSteeper (rise h e i run) run (rise h e i next) next → Passed h e o i next (next + 1)
     passed-steep f = record {
       steepest = steepest-next (w .steepest) f;
-      seen-all = seen-above (slope-raise (rise h e i run) (rise h e i (s + 1)) o run (s + 1) f);
+      seen-all = seen-above (slope-raise (rise h e i run) (rise h e i next) o run next f);
     }
 
     -- its road is below the line and the object on it is not
-    pub passed-seen : Flatter (rise h e i (s + 1)) (s + 1) (rise h e i run) run →
-        NoSteeper (rise h e i run) run (rise h e i (s + 1) +ℤ pos o) (s + 1) → Passed h e o i run (s + 1)
+    pub passed-seen : Flatter (rise h e i next) next (rise h e i run) run →
+        NoSteeper (rise h e i run) run (rise h e i next +ℤ pos o) next → Passed h e o i run (next + 1)
     passed-seen f g = record {
       steepest = steepest-stays (w .steepest) (≤ℤ-of-< f);
       seen-all = seen-above g;
     }
 
     -- the object on it is below the line: hidden by the station `run` metres ahead, so the search ends
-    pub passed-hidden : (limit : ℕ) → s ≤ limit → Flatter (rise h e i (s + 1) +ℤ pos o) (s + 1) (rise h e i run) run →
-        s ≡ reach (λ t. seen h e o i (i + t)) limit
+    pub passed-hidden : (limit : ℕ) → next ≤ limit → Flatter (rise h e i next +ℤ pos o) next (rise h e i run) run →
+        next - 1 ≡ reach (λ t. seen h e o i (i + t)) limit
     passed-hidden limit l f =
-        let st = w .steepest in
+        let st = w .steepest in let q : suc (next - 1) ≡ next = omega (arith, st .before) in
         available-unique record {
-          within = l;
-          all = w .seen-all;
+          within = omega arith;
+          all = λ t m r. w .seen-all t m (omega (arith, st .before));
           stop = λ m p.
-              clashℤ f (slopes-by-seen h e o i (s + 1) (seen-to h e o i (i + (s + 1)) (rw (← add-one s) at p))
-              run (st .ahead) (omega (arith, st .within)));
+              clashℤ f (slopes-by-seen h e o i next (seen-to h e o i (i + next) (rw q at p)) run (st .ahead) (st .before));
         } (reach-is _ limit)
 
     -- it ends at the limit
-    pub passed-all : s ≡ reach (λ t. seen h e o i (i + t)) s
-    passed-all = available-unique record { within = le-refl s; all = w .seen-all; stop = λ m p. omega arith } (reach-is _ s)
+    pub passed-all : (limit : ℕ) → next ≡ limit + 1 → limit ≡ reach (λ t. seen h e o i (i + t)) limit
+    passed-all limit q =
+        available-unique record {
+          within = le-refl limit;
+          all = λ t l r. w .seen-all t l (omega arith);
+          stop = λ m p. omega arith;
+        } (reach-is _ limit)

@@ -1,6 +1,6 @@
 // Document 01, "What can be seen": sight from one station, and the sight profile.
 ghost use mathlib.Core.Path.{_≡_};
-ghost use Prim.Native.Nat.{_+_, _<_, _≤_};
+ghost use Prim.Native.Nat.{_+_, _-_, _<_, _≤_};
 ghost use lib.ListN.{length};
 ghost use Rattle.terms.specs.Limits.{greatestFarthest};
 ghost use Rattle.whole.specs.Fill.{filled};
@@ -8,24 +8,26 @@ ghost use Rattle.sight.specs.Sight.{at, seen, reach, availableSight};
 ghost use Rattle.sight.specs.Operations.{sightAnswer, profileAnswer, profileList};
 use terms::Answer;
 
-// How far from station `i` the object is seen, up to `limit`: the search is left at the first hidden station.
-// The steepest line so far goes from the eye to the road `run` metres ahead, `rise` above the eye. It alone decides about the
-// next station: an object on it or above it is seen. Where the road there reaches the line, so does any object on it, and the
-// line to that road is the steepest from then on. Slopes are compared by products, `road / next` with `rise / run`.
-fn search_sight(heights: &[i32], i: usize, e: u32, o: u32, limit: usize) -> usize
-    requires { ⌜ (0 < limit) × (limit ≤ greatestFarthest) × (i + limit < length (now heights)) ⌝ }
-    ensures { λ r. ⌜ r ≡ reach (λ t. seen (at (now (heights .entry))) e o i (i + t)) limit ⌝ }
+// How far from station `i` the object is seen, looking less than `end` metres ahead: the search is left at the first hidden
+// station.
+// All stations less than `next` metres ahead are seen. The steepest line to them goes from the eye to the road `run` metres
+// ahead, `rise` above the eye. It alone decides about the next station: an object on it or above it is seen. Where the road
+// there reaches the line, so does any object on it, and the line to that road is the steepest from then on. Slopes are compared
+// by products, `road / next` with `rise / run`.
+fn search_sight(heights: &[i32], i: usize, e: u32, o: u32, end: usize) -> usize
+    requires { ⌜ (1 < end) × (end ≤ greatestFarthest + 1) × (i + end ≤ length (now heights)) ⌝ }
+    ensures { λ r. ⌜ r ≡ reach (λ t. seen (at (now (heights .entry))) e o i (i + t)) (end - 1) ⌝ }
 {
     let eye = heights[i] as i64 + e as i64;
     let object = o as i64;
     let mut rise = heights[i + 1] as i64 - eye;
     let mut run: usize = 1;
-    let mut s: usize = 1;
+    let mut next: usize = 2;
     let sight = 'search: loop {
-        if s == limit {
-            break 'search limit;
+        if next == end {
+            break 'search end - 1;
         }
-        let next = s + 1;
+        let following = next + 1;
         let road = heights[i + next] as i64 - eye;
         let line = rise * (next as i64);
         if line <= road * (run as i64) {
@@ -33,10 +35,10 @@ fn search_sight(heights: &[i32], i: usize, e: u32, o: u32, limit: usize) -> usiz
             run = next;
         } else {
             if (road + object) * (run as i64) < line {
-                break 'search s;
+                break 'search next - 1;
             }
         }
-        s = next;
+        next = following;
     };
     sight
 }
@@ -46,12 +48,12 @@ fn available(heights: &[i32], i: usize, e: u32, o: u32, far: usize) -> usize
     requires { ⌜ (i < length (now heights)) × (far ≤ greatestFarthest) ⌝ }
     ensures { λ r. ⌜ r ≡ availableSight (now (heights .entry)) i e o far ⌝ }
 {
-    let left = heights.len() - 1 - i;
-    let limit = if far < left { far } else { left };
-    if limit == 0 {
+    let behind = heights.len() - i;
+    let end = if far < behind { far + 1 } else { behind };
+    if end < 2 {
         return 0;
     }
-    search_sight(heights, i, e, o, limit)
+    search_sight(heights, i, e, o, end)
 }
 
 // Sight from one station.

@@ -1,6 +1,6 @@
--- Laws of `filled`: its length, each of its places, how it grows by one store, its front, and what it depends on.
+-- Laws of `filled`: its length, each of its places, how it grows by one store at its end or its front, and what it depends on.
 use mathlib.Core.Path.{_≡_, refl, sym, ap, _∙_}
-use mathlib.Core.List.{List}
+use mathlib.Core.List.{List, [], _∷_}
 use mathlib.Core.Logic.{⊎-elim}
 use Prim.Native.Nat.{ℕ, zero, suc, _+_, _≤_, _<_}
 use native.Mathlib.Nat.{eq-or-lt-of-le, add-assoc, add-suc, add-zero}
@@ -9,6 +9,14 @@ use native.Mathlib.Omega.{arith}
 use lib.ListN.{length, take, getD, set, length-set}
 use lib.Seq.{getD-set-same, getD-set-other, take-set-lt, ext-getD}
 use Rattle.whole.specs.Fill.{filled}
+
+-- two stores at two places
+set-set-lt : {A : Type 0} (xs : List A) (i j : ℕ) (a b : A) → i < j → set (set xs j b) i a ≡ set (set xs i a) j b
+set-set-lt [] i j a b l = refl
+set-set-lt (x ∷ xs) zero zero a b l = absurd (omega arith)
+set-set-lt (x ∷ xs) zero (suc j) a b l = refl
+set-set-lt (x ∷ xs) (suc i) zero a b l = absurd (omega arith)
+set-set-lt (x ∷ xs) (suc i) (suc j) a b l = ap (λ ys. x ∷ ys) (set-set-lt xs i j a b (omega arith))
 
 module _ {A : Type 0} (f : ℕ → A) (i : ℕ) where
   pub filled-length : (n : ℕ) (xs : List A) → length (filled f i n xs) ≡ length xs
@@ -51,6 +59,20 @@ module _ {A : Type 0} (f : ℕ → A) (i : ℕ) where
 
   pub filled-to : (n m : ℕ) (xs out : List A) → n ≡ m → out ≡ filled f i n xs → out ≡ filled f i m xs
   filled-to n m xs out e p = rw (← e) p
+
+  -- ---- a loop that fills from the last place back: one store more
+  front : (n : ℕ) (xs : List A) → set (filled f (i + 1) n xs) i (f i) ≡ filled f i (n + 1) xs
+  unfolding filled
+  front zero xs = rw add-zero refl
+  front (suc n) xs =
+      let e : i + 1 + n ≡ i + (n + 1) = omega arith in let w : suc n + 1 ≡ suc (n + 1) = omega arith in
+      set-set-lt (filled f (i + 1) n xs) i (i + 1 + n) (f i) (f (i + 1 + n)) (omega arith)
+      ∙ ap (λ ys. set ys (i + 1 + n) (f (i + 1 + n))) (front n xs)
+      ∙ rw (e, w) refl
+
+  pub filled-front : (n j : ℕ) (xs out : List A) (v : A) → j ≡ i + 1 → out ≡ filled f j n xs → v ≡ f i →
+      set out i v ≡ filled f i (n + 1) xs
+  filled-front n j xs out v e p q = rw (p, e, q) (front n xs)
 
   -- ---- two rows end to end
   pub filled-join : (n m : ℕ) (xs : List A) → filled f (i + n) m (filled f i n xs) ≡ filled f i (n + m) xs

@@ -1,25 +1,31 @@
--- `fill_marks` meets its contract. The invariant: the first `i` places are filled, the list is as long as it was. The
+-- `fill_marks` meets its contract. The invariant: the places from `i` on are filled, the list is as long as it was. The
 -- measure is the number of stations left.
-use mathlib.Core.Path.{_≡_, refl}
-use Prim.Native.Nat.{_-_, _≤_}
+use mathlib.Core.Path.{_≡_, refl, _∙_}
+use Prim.Native.Nat.{_+_, _-_, _≤_}
 use native.Mathlib.Omega.{arith}
 use borrow.Author.Needs.{needs}
 use lib.ListN.{length}
 use Rattle.whole.specs.Fill.{filled}
-use Rattle.whole.proofs.Fill.{filled-none, filled-next, filled-to}
+use Rattle.whole.proofs.Fill.{filled-none, filled-front, filled-to}
 use Rattle.marks.specs.Marks.{markOf}
 use Rattle.marks.proofs.fill_marks.Statement.{statement}
 use Rattle.marks.proofs.fill_marks.Tie as tie
 
 abbrev Inv-loop : tie.InvT-loop
-Inv-loop heights stopping decision list₀ i₀ i-end list i =
-    (i ≤ i-end) × (length list ≡ length list₀) × (list ≡ filled (markOf heights stopping decision) 0 i list₀)
+Inv-loop heights stopping decision list₀ i₀ list i =
+    (i ≤ length heights) × (length list ≡ length list₀)
+    × (list ≡ filled (markOf heights stopping decision) i (length heights - i) list₀)
 
 abbrev μ-loop : tie.MeasureT-loop
-μ-loop heights stopping decision list₀ i₀ i-end list i = i-end - i
+μ-loop heights stopping decision list₀ i₀ list i = i
 
 loop-holds : tie.Need-loop-holds Inv-loop μ-loop
-loop-holds c = (omega arith, refl, filled-none _ _ _)
+loop-holds c =
+    let n = length (c .before .args .heights .now) in
+    (omega arith, refl, filled-to _ n 0 (n - n) _ _ (omega arith) (filled-none _ _ _))
+
+sub-i : tie.Need-sub-i Inv-loop μ-loop
+sub-i c = search needs
 
 mark-of-requires : tie.Need-mark-of-requires Inv-loop μ-loop
 mark-of-requires c κs = search needs
@@ -27,22 +33,28 @@ mark-of-requires c κs = search needs
 slice-write-list : tie.Need-slice-write-list Inv-loop μ-loop
 slice-write-list c = search needs
 
-add-i : tie.Need-add-i Inv-loop μ-loop
-add-i c = search needs
-
 loop-less : tie.Need-loop-less Inv-loop μ-loop
 loop-less c = search needs
 
 loop-again : tie.Need-loop-again Inv-loop μ-loop
 loop-again c =
     let l = c .before .before .loop in
-    (search needs, search needs, filled-next _ (l .i) _ _ _ (l .inv .2) (c .mark-of .ensures))
+    let n = length (c .before .before .before .before .args .heights .now) in (
+      omega arith,
+      search needs,
+      filled-to _ (l .i - 1) (n - l .i + 1) _ _ _ (omega arith)
+          (filled-front _ (l .i - 1) (n - l .i) (l .i) _ _ _ (omega arith) (l .inv .2) (c .mark-of .ensures)),
+    )
 
 same-length : tie.Need-same-length Inv-loop μ-loop
 same-length c = search needs
 
 returns : tie.Need-returns Inv-loop μ-loop
-returns c = let l = c .before .loop in filled-to _ 0 (l .i) _ _ _ (omega arith) (l .inv .2)
+returns c =
+    let l = c .before .loop in
+    let n = length (c .before .before .before .args .heights .now) in
+    let z : l .i ≡ 0 = omega arith in
+    filled-to _ 0 (n - 0) n _ _ (omega arith) (rw z at (l .inv .2))
 
 pub fill-marks-spec : {M : Type 1} → statement M
 fill-marks-spec =
@@ -51,9 +63,9 @@ fill-marks-spec =
     Inv-loop
     μ-loop
     loop-holds
+    sub-i
     mark-of-requires
     slice-write-list
-    add-i
     loop-less
     loop-again
     same-length

@@ -1,42 +1,53 @@
--- `available` meets its contract: the limit that it hands to the search is the lesser of the farthest distance and the stations left.
-use mathlib.Core.Path.{_≡_, refl, sym, _∙_}
+-- `available` meets its contract: the end that it hands to the search lies just behind the lesser of the farthest distance and the
+-- stations left.
+use mathlib.Core.Path.{_≡_, refl}
 use mathlib.Core.Logic.{⊎-elim}
-use Prim.Native.Nat.{_-_}
+use Prim.Native.Nat.{_+_, _-_}
+use native.Mathlib.Nat.{le-refl}
 use borrow.Author.Needs.{needs}
 use native.Mathlib.Omega.{arith}
 use lib.ListN.{length}
 use Rattle.sight.specs.Sight.{reach, least, availableSight}
-use Rattle.sight.proofs.Reach.{least-lt, least-ge, least-le-left, least-le-right}
+use Rattle.sight.proofs.Reach.{le-least, least-le-left, least-le-right}
 use Rattle.sight.proofs.available.Statement.{statement}
 use Rattle.sight.proofs.available.Tie as tie
 
-sub-left : tie.Need-sub-left
-sub-left c = search needs
+sub-behind : tie.Need-sub-behind
+sub-behind c = search needs
 
-sub-left-2 : tie.Need-sub-left-2
-sub-left-2 c = search needs
+add-end : tie.Need-add-end
+add-end c = search needs
+
+end-is : (c : tie.Joined1) →
+    let s = c .before .args in c .if1 .end ≡ least (s .far) (length (s .heights .now) - 1 - s .i) + 1
+end-is c =
+    let s = c .before .args in
+    let left = length (s .heights .now) - 1 - s .i in
+    let a = least-le-left (s .far) left in let b = least-le-right (s .far) left in
+    ⊎-elim
+    (λ w. let m = le-least (s .far) left (s .far) (le-refl _) (omega arith) in omega arith)
+    (λ w. let m = le-least (s .far) left left (omega arith) (le-refl _) in omega arith)
+    (c .if1 .came)
 
 limit-is : (c : tie.Joined1) →
-    let s = c .before .args in c .if1 .limit ≡ least (s .far) (length (s .heights .now) - 1 - s .i)
-limit-is c =
-    ⊎-elim
-    (λ w. w .1 ∙ sym (least-lt _ _ (w .0 .taken)))
-    (λ w. w .1 ∙ sym (least-ge _ _ (w .0 .left)))
-    (c .if1 .came)
+    let s = c .before .args in c .if1 .end - 1 ≡ least (s .far) (length (s .heights .now) - 1 - s .i)
+limit-is c = omega (arith, end-is c)
 
 returns : tie.Need-returns
 unfolding availableSight reach
-returns c = rw (← limit-is (c .before), c .if2 .taken) refl
+returns c =
+    let e : c .before .if1 .end ≡ 1 = omega (arith, end-is (c .before)) in
+    rw (← limit-is (c .before), e) refl
 
 search-sight-requires : tie.Need-search-sight-requires
 search-sight-requires c κs =
     let s = c .before .before .args in
     let left = length (s .heights .now) - 1 - s .i in
-    omega (arith, limit-is (c .before), least-le-left (s .far) left, least-le-right (s .far) left)
+    omega (arith, end-is (c .before), least-le-left (s .far) left, least-le-right (s .far) left)
 
 returns-2 : tie.Need-returns-2
 unfolding availableSight
 returns-2 c = rw (limit-is (c .before .before)) at (c .search-sight .ensures)
 
 pub available-spec : {M : Type 1} → statement M
-available-spec = tie.close (tie.spec sub-left sub-left-2 returns search-sight-requires returns-2)
+available-spec = tie.close (tie.spec sub-behind add-end returns search-sight-requires returns-2)

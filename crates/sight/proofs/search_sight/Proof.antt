@@ -1,6 +1,6 @@
--- `search_sight` meets its contract. The invariant: the `s` stations passed are all seen, none of them lies above the line to the
--- road at `i + run`, and `rise` is how far that lies above the eye. The comparisons of the code are those of the laws in
--- proofs/Steepest.antt, as every height fits 32 bits and every distance is at most 8,000. The measure is what is left to the limit.
+-- `search_sight` meets its contract. The invariant: the stations less than `next` metres ahead are all seen, none of them lies above
+-- the line to the road at `i + run`, and `rise` is how far that lies above the eye. The comparisons of the code are those of the laws in
+-- proofs/Steepest.antt, as every height fits 32 bits and every distance is at most 8,000. The measure is what is left to the end.
 use mathlib.Core.Path.{_≡_}
 use mathlib.Core.Bool.{true}
 use mathlib.Core.List.{List}
@@ -17,17 +17,17 @@ use Rattle.sight.proofs.Steepest.{rise, Passed, passed-one, passed-stee
 use Rattle.sight.proofs.search_sight.Statement.{statement}
 use Rattle.sight.proofs.search_sight.Tie as tie
 
-record Searched (list : List ℤ) (i e o limit bits run s : ℕ) : Type 0 where
-  within : s ≤ limit
+record Searched (list : List ℤ) (i e o end bits run next : ℕ) : Type 0 where
+  within : next ≤ end
   fits : SFits w32 (at list (i + run))
   rises : toZ w64 bits ≡ rise (at list) e i run
-  passed : Passed (at list) e o i run s
+  passed : Passed (at list) e o i run next
 
 abbrev Inv-search : tie.InvT-search
-Inv-search heights i e o limit eye object rise₀ run₀ s₀ rise run s = Searched heights i e o limit rise run s
+Inv-search heights i e o end eye object rise₀ run₀ next₀ rise run next = Searched heights i e o end rise run next
 
 abbrev μ-search : tie.MeasureT-search
-μ-search heights i e o limit eye object rise₀ run₀ s₀ rise run s = limit - s
+μ-search heights i e o end eye object rise₀ run₀ next₀ rise run next = end - next
 
 -- ---- what the code computes with: heights that fit 32 bits, and counts that are small
 -- before the loop
@@ -62,8 +62,8 @@ module _ (c : tie.After-road Inv-search μ-search) where
 
   record Next : Type 0 where
     before : First outer
-    there : SFits w32 (at (entry .args .heights .now) (entry .args .i + (head .search .s + 1)))
-    next : Reads (toZ w64 (head .search .s + 1)) (pos (head .search .s + 1))
+    there : SFits w32 (at (entry .args .heights .now) (entry .args .i + head .search .next))
+    next : Reads (toZ w64 (head .search .next)) (pos (head .search .next))
     run : Reads (toZ w64 (head .search .run)) (pos (head .search .run))
     rises : let s = entry .args in
         Reads (toZ w64 (head .search .rise)) (rise (at (s .heights .now)) (s .e) (s .i) (head .search .run))
@@ -74,7 +74,7 @@ module _ (c : tie.After-road Inv-search μ-search) where
       record {
         before = at-first outer;
         there = sfits-of (c .road .given);
-        next = countR w64 (head .search .s + 1) 8000 (omega arith);
+        next = countR w64 (head .search .next) 8000 (omega arith);
         run = countR w64 (head .search .run) 8000 (omega arith);
         rises = record {
           size = asB (v .rises)
@@ -123,8 +123,8 @@ search-holds c =
     let v = at-first c in
     record { within = omega arith; fits = v .first; rises = same-by (search reads depth 20) tt; passed = passed-one }
 
-add-next : tie.Need-add-next Inv-search μ-search
-add-next c = search needs
+add-following : tie.Need-add-following Inv-search μ-search
+add-following c = search needs
 
 add-road : tie.Need-add-road Inv-search μ-search
 add-road c = search needs
@@ -162,6 +162,12 @@ cast-if3 c = search needs
 mul-if3 : tie.Need-mul-if3 Inv-search μ-search
 mul-if3 c = let v = at-next (c .before) in fits-by (search sizes depth 16) tt
 
+sub-sight : tie.Need-sub-sight Inv-search μ-search
+sub-sight c = search needs
+
+sub-sight-2 : tie.Need-sub-sight-2 Inv-search μ-search
+sub-sight-2 c = let st = head (c .before .before) .search .inv .passed .steepest in omega (arith, st .before)
+
 search-less : tie.Need-search-less Inv-search μ-search
 search-less c = search needs
 
@@ -191,12 +197,12 @@ search-again-2 c =
     }
 
 returns : tie.Need-returns Inv-search μ-search
-returns c = rw (c .if1 .taken) at (passed-all (c .before .search .inv .passed))
+returns c = passed-all (c .before .search .inv .passed) _ (omega arith)
 
 returns-2 : tie.Need-returns-2 Inv-search μ-search
 returns-2 c =
     let v = at-next (c .before .before) in let l = head (c .before .before) .search .inv in
-    passed-hidden (l .passed) _ (l .within) (lt-yes (c .if3 .taken) (search reads depth 20) tt)
+    passed-hidden (l .passed) _ (omega arith) (lt-yes (c .if3 .taken) (search reads depth 20) tt)
 
 pub search-sight-spec : {M : Type 1} → statement M
 search-sight-spec =
@@ -216,7 +222,8 @@ search-sight-spec =
     cast-rise
     sub-rise
     search-holds
-    add-next
+    sub-sight
+    add-following
     add-road
     mul-road
     shared-slice-copy-out-road
@@ -229,6 +236,7 @@ search-sight-spec =
     add-if3
     cast-if3
     mul-if3
+    sub-sight-2
     search-less
     search-again
     search-less-2
