@@ -135,3 +135,8 @@ pub fn mark_road_file(file: &[u8], marks: &mut [u8]) -> Result<u32, Refusal> {
     // keeps neither pointer.
     refusal::answer(unsafe { vcp_mark_road_file(file.as_ptr(), file.len(), marks.as_mut_ptr(), marks.len()) })
 }
+
+// The README's example compiles.
+#[cfg(doctest)]
+#[doc = include_str!("../../../README.md")]
+struct Readme;

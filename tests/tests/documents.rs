@@ -1,0 +1,111 @@
+//! What the documents show is what the programs print, and the table of must-fail edits names them all.
+
+use std::collections::{BTreeMap, BTreeSet};
+use std::fs;
+use std::path::{Path, PathBuf};
+
+use sight_tests::reference::listing::listing;
+
+fn root() -> PathBuf {
+    Path::new(env!("CARGO_MANIFEST_DIR")).parent().expect("the package stands in the repository").to_path_buf()
+}
+
+fn text(path: &str) -> String {
+    let path = root().join(path);
+    fs::read_to_string(&path).unwrap_or_else(|error| panic!("{}: {error}", path.display()))
+}
+
+/// The block of a document that begins with a line, without that line.
+fn block<'a>(document: &'a str, first: &str) -> Vec<&'a str> {
+    let mut lines = document.lines().skip_while(|&line| line != first);
+    assert!(lines.next().is_some(), "no line {first:?}");
+    lines.take_while(|&line| line != "```").collect()
+}
+
+/// The listing of the README, whose lines have words behind two spaces, is that of its road.
+#[test]
+fn listing_of_the_readme() {
+    let road = "roads/three-crests.vcp";
+    let readme = text("README.md");
+    let shown: Vec<&str> = block(&readme, &format!("$ make list ROAD={road}"))
+        .into_iter()
+        .map(|line| line.split("  ").next().unwrap_or_default())
+        .collect();
+    let file = fs::read(root().join(road)).expect("the road ships with the repository");
+    assert_eq!(shown, listing(&file).lines().collect::<Vec<_>>());
+}
+
+/// The text of the README is how the shipped text begins.
+#[test]
+fn text_of_the_readme() {
+    let readme = text("README.md");
+    let shipped = text("roads/three-crests.txt");
+    let first = shipped.lines().next().expect("the text has lines");
+    let shown = block(&readme, first);
+    assert!(shown.len() > 5);
+    assert_eq!(shown, shipped.lines().skip(1).take(shown.len()).collect::<Vec<_>>());
+}
+
+/// The rows of the table of wrong answers: the contract, such as `sight::profile`, and its edits. An empty first column
+/// stands for the contract above.
+fn wrong_answers(table: &str) -> BTreeMap<String, Vec<String>> {
+    let names = |column: &str| column.split('`').skip(1).step_by(2).map(String::from).collect::<Vec<_>>();
+    let mut rows: BTreeMap<String, Vec<String>> = BTreeMap::new();
+    let mut contract = String::new();
+    for line in table.lines().filter(|line| line.starts_with('|')) {
+        let columns: Vec<&str> = line.split('|').collect();
+        if let Some(name) = names(columns[1]).first() {
+            contract.clone_from(name);
+        }
+        rows.entry(contract.clone()).or_default().extend(names(columns[2]));
+    }
+    rows.retain(|_, edits| !edits.is_empty());
+    rows
+}
+
+/// The crates, by their folders.
+fn crates() -> Vec<(String, PathBuf)> {
+    let folders = fs::read_dir(root().join("crates")).expect("the crates are there").flatten();
+    folders.map(|folder| (folder.file_name().to_string_lossy().into_owned(), folder.path())).collect()
+}
+
+/// The table names each must-fail edit of each crate, and no other.
+#[test]
+fn every_edit_is_in_the_table() {
+    let mut there = BTreeSet::new();
+    for (name, folder) in crates() {
+        let Ok(edits) = fs::read_dir(folder.join("must-fail")) else { continue };
+        for edit in edits.flatten() {
+            let label = edit.file_name().to_string_lossy().into_owned();
+            there.insert(format!("{name}/{}", label.strip_suffix(".edit").expect("an edit")));
+        }
+    }
+    let mut named = BTreeSet::new();
+    for (contract, edits) in wrong_answers(&text("docs/RULED-OUT.md")) {
+        let name = contract.split([':', ' ']).next().unwrap_or_default();
+        for edit in edits {
+            assert!(named.insert(format!("{name}/{edit}")), "{name}/{edit} stands twice");
+        }
+    }
+    assert_eq!(named, there);
+}
+
+/// Each public function has two wrong answers or more in the table.
+#[test]
+fn every_contract_rules_out_two_answers() {
+    let table = wrong_answers(&text("docs/RULED-OUT.md"));
+    let mut functions = 0;
+    for (name, folder) in crates() {
+        let Ok(source) = fs::read_to_string(folder.join("src/lib.rt")) else { continue };
+        for line in source.lines() {
+            let Some(rest) = line.strip_prefix("pub fn ").or(line.strip_prefix("pub extern \"C\" fn ")) else {
+                continue;
+            };
+            let function = rest.split('(').next().unwrap_or_default();
+            let edits = table.get(&format!("{name}::{function}")).map_or(0, Vec::len);
+            assert!(edits >= 2, "{name}::{function} has {edits}");
+            functions += 1;
+        }
+    }
+    assert!(functions > 20, "{functions} public functions");
+}
