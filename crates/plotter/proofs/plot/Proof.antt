@@ -1,0 +1,128 @@
+-- `plot` is safe: an accepted road has at most as many stations as the arrays have places (`accepted-road`).
+use mathlib.Core.Path.{_≡_, sym, ap, _∙_}
+use Prim.Native.Nat.{_+_, _≤_}
+use borrow.Author.Needs.{needs}
+use native.Mathlib.Omega.{arith}
+use lib.ListN.{length}
+use lib.Seq.{length-take-le}
+use Rattle.terms.specs.declared.Verdict.the-variants.{Accepted}
+use Rattle.road.proofs.Accepted.{SoundRoad, accepted-road}
+use Rattle.file.specs.declared.ReadRoad.{ReadRoad}
+use Rattle.file.specs.File.{roadIn}
+use Rattle.file.specs.Operations.{readVerdict, readRoad}
+use Rattle.file.proofs.Sound.{accepted-file, read-accepted}
+use Rattle.plotter.proofs.plot.Statement.{statement}
+use Rattle.plotter.proofs.plot.Tie as tie
+
+verdict-is : (c : tie.After-read) → c .read .result .verdict ≡ readVerdict (c .before .before .args .file .now)
+unfolding readRoad
+verdict-is c = ap (λ (r : ReadRoad). r .verdict) (c .read .ensures)
+
+sound : (c : tie.After-enum-told) → SoundRoad (c .before .before .read .result .road)
+sound c =
+    let read = c .before .before in
+    let accepted = sym (verdict-is read) ∙ c .enum-told .given .1 in
+    let road = ap (λ (r : ReadRoad). r .road) (read .read .ensures ∙ read-accepted _ accepted) in
+    accepted-road _ (rw road (accepted-file _ accepted .road))
+
+-- the arrays have a place for each station
+rooms : (c : tie.After-struct-known) →
+    let n = c .before .before .before .before .before .before .before .before .before .before .read .result .road .length + 1 in
+    (n ≤ length (c .before .before .before .before .before .heights2 .last .1 .0))
+    × (n ≤ length (c .before .before .mark-road-file .last .1 .0))
+rooms c =
+    let marks = c .before .before in
+    let heights = marks .before .before .before in
+    omega (arith, heights .heights2 .kept .1 .0, marks .mark-road-file .kept .1 .0, sound (heights .before .before .before) .length-high)
+
+read-requires : tie.Need-read-requires
+read-requires c κs = search needs
+
+enum-known-verdict : tie.Need-enum-known-verdict
+enum-known-verdict c = search needs
+
+slice-aggregate-number : tie.Need-slice-aggregate-number
+slice-aggregate-number c = search needs
+
+cast-number : tie.Need-cast-number
+cast-number c = search needs
+
+number-requires : tie.Need-number-requires
+number-requires c κs = search needs
+
+slice-aggregate-text : tie.Need-slice-aggregate-text
+slice-aggregate-text c = search needs
+
+text-requires : tie.Need-text-requires
+text-requires c κs = search needs
+
+returns : tie.Need-returns
+returns c = search needs
+
+enum-told : tie.Need-enum-told
+enum-told c = search needs
+
+slice-aggregate-heights : tie.Need-slice-aggregate-heights
+slice-aggregate-heights c = search needs
+
+heights-requires : tie.Need-heights-requires
+heights-requires c κs = search needs
+
+slice-aggregate-mark-road-file : tie.Need-slice-aggregate-mark-road-file
+slice-aggregate-mark-road-file c = search needs
+
+mark-road-file-requires : tie.Need-mark-road-file-requires
+mark-road-file-requires c κs = search needs
+
+cast-stations : tie.Need-cast-stations
+cast-stations c = search needs
+
+add-stations : tie.Need-add-stations
+add-stations c = search needs
+
+array-share-prefix-heights : tie.Need-array-share-prefix-heights
+array-share-prefix-heights c = rooms c .0
+
+slice-aggregate-draw : tie.Need-slice-aggregate-draw
+slice-aggregate-draw c = sym (length-take-le _ _ (rooms (c .before) .0))
+
+array-share-prefix-marks : tie.Need-array-share-prefix-marks
+array-share-prefix-marks c = rooms (c .before) .1
+
+slice-aggregate-draw-2 : tie.Need-slice-aggregate-draw-2
+slice-aggregate-draw-2 c = sym (length-take-le _ _ (rooms (c .before .before) .1))
+
+draw-requires : tie.Need-draw-requires
+draw-requires c κs =
+    let r = rooms (c .before .before) .0 in
+    let m = c .before .before .before .before .before .before .before .before .before .before in
+    simp (length-take-le) (omega (arith, sound m .length-high))
+
+returns-2 : tie.Need-returns-2
+returns-2 c = search needs
+
+pub plot-spec : {M : Type 1} → statement M
+plot-spec =
+    tie.close
+    (tie.spec
+    read-requires
+    enum-known-verdict
+    slice-aggregate-number
+    cast-number
+    number-requires
+    slice-aggregate-text
+    text-requires
+    returns
+    enum-told
+    slice-aggregate-heights
+    heights-requires
+    slice-aggregate-mark-road-file
+    mark-road-file-requires
+    cast-stations
+    add-stations
+    array-share-prefix-heights
+    slice-aggregate-draw
+    array-share-prefix-marks
+    slice-aggregate-draw-2
+    draw-requires
+    returns-2)
