@@ -6,10 +6,14 @@ SHELL := /bin/bash
 .ONESHELL:
 .SILENT:
 .DELETE_ON_ERROR:
-.PHONY: test list listable road textable text readable bench tools fmt clean
+.PHONY: test list plot text given road textable bench tools fmt clean
 
-# The road file that `make list` lists and `make text` prints.
+# The road file that `make list` lists, `make plot` draws and `make text` prints, and the file of its picture.
 ROAD ?= roads/three-crests.vcp
+PLOT ?= target/plot/$(basename $(notdir $(ROAD))).svg
+
+# What the programs and the libraries are proved and built from.
+SOURCES := crates.txt $(shell find crates -type f)
 
 # Proves every crate from nothing, tries every must-fail edit and runs the programs; then links the proved functions into
 # the Rust tests and runs them. Where all went well the last line repeats that of `rt ci`.
@@ -23,23 +27,28 @@ test: tools
 	cargo test --workspace --release --offline --quiet
 	tail -n 1 "$$log"
 
-# Lists a road file, with the lister as it was last proved and built.
-list: listable target/bin/lister
+# Lists a road file.
+list: given target/bin/lister
 	target/bin/lister < "$(ROAD)"
 
-listable:
-	$(call need,[ -f "$(ROAD)" ],$(ROAD) is not a file: make list ROAD=file)
+# Draws a road's profile and zones. A refused file leaves no picture.
+plot: given target/bin/plotter
+	mkdir -p "$(dir $(PLOT))"
+	target/bin/plotter < "$(ROAD)" > "$(PLOT)"
+	case $$(head -c 4 "$(PLOT)") in
+	'<svg') echo "$(PLOT)" ;;
+	*) cat "$(PLOT)"; rm -f "$(PLOT)"; exit 1 ;;
+	esac
 
-target/bin/lister: crates.txt $(shell find crates -type f)
-	$(call need,command -v rt,rt is not on the path: install $(KIT))
-	log=$$(mktemp)
-	trap 'rm -f "$$log"' EXIT
-	echo "proving and building the lister: some minutes, once" >&2
-	rt check lister >"$$log" 2>&1 || { tail -n 20 "$$log"; exit 1; }
-	touch $@
+# Prints the text of a road file (rust/roadtext).
+text: given tools target/staticlib/libvan.a
+	$(roadtext) text "$(ROAD)"
 
-# Turns a text into a road file (rust/roadtext): TEXT with the ending .vcp, or the ROAD of the command line. The default of
-# ROAD is no place to write to. A library that is there judges the road as it is.
+given:
+	$(call need,[ -f "$(ROAD)" ],$(ROAD) is not a file: give one with ROAD=file)
+
+# Turns a text into a road file: TEXT with the ending .vcp, or the ROAD of the command line. The default of ROAD is no place
+# to write to.
 road: ROAD :=
 road: textable tools target/staticlib/libvan.a
 	$(roadtext) road "$(TEXT)" $(if $(ROAD),"$(ROAD)")
@@ -47,22 +56,29 @@ road: textable tools target/staticlib/libvan.a
 textable:
 	$(call need,[ -f "$(TEXT)" ],$(or $(TEXT),TEXT) is not a file: make road TEXT=file [ROAD=out])
 
-# Prints the text of a road file.
-text: readable tools target/staticlib/libvan.a
-	$(roadtext) text "$(ROAD)"
-
-readable:
-	$(call need,[ -f "$(ROAD)" ],$(ROAD) is not a file: make text ROAD=file)
-
 roadtext = cargo run --release --offline --quiet --package roadtext --
 
 # Times the proved functions beside the same calculations in safe Rust and beside the literal rule, and prints one table.
-# It takes a minute or two. Libraries that are there are measured as they are.
+# It takes a minute or two.
 bench: tools target/staticlib/libvan.a target/staticlib/libprobe.a
 	cargo run --profile bench-run --offline --quiet --bin bench
 
-target/staticlib/lib%.a: | tools
-	rt staticlib $* >&2
+# Proves and builds a program, or a library for Rust, where what it is made from has changed.
+target/bin/%: $(SOURCES)
+	$(call need,command -v rt,rt is not on the path: install $(KIT))
+	$(call quietly,rt check $*)
+
+target/staticlib/lib%.a: $(SOURCES) | tools
+	$(call quietly,rt staticlib $*)
+
+# $(call quietly,COMMAND): runs the command, which makes the target, and shows what it says only where it fails.
+define quietly
+log=$$(mktemp)
+trap 'rm -f "$$log"' EXIT
+echo "proving and building $(@F): some minutes, once" >&2
+$1 >"$$log" 2>&1 || { tail -n 20 "$$log" >&2; exit 1; }
+touch $@
+endef
 
 # $(call need,TEST,MESSAGE): where the shell's test fails, make stops with the message.
 need = $(if $(shell ($1) >/dev/null 2>&1 && echo holds),,$(error $2))

@@ -24,6 +24,8 @@ const METRE: u64 = 10000;
 // Where height 0 is counted, so that no height is negative.
 pub const ZERO_HEIGHT: u64 = 3000000000;
 
+const LIFT: i64 = ZERO_HEIGHT as i64;
+
 // The exaggerations that are tried, the largest first.
 const EXAGGERATIONS: [u32; 8] = [500, 200, 100, 50, 20, 10, 5, 2];
 
@@ -149,7 +151,7 @@ pub fn shown(length: u32, range: u64) -> u64
 pub fn lift(height: i32) -> u64
     ensures { λ r. ⌜ r ≡ lifted height ⌝ }
 {
-    (height as i64 + 3000000000) as u64
+    (height as i64 + LIFT) as u64
 }
 
 // The height at the plot's lower edge, for the lowest of a profile.

@@ -264,14 +264,17 @@ fn station_tick(view: View, station: u32) {
     text(b"</text>\n");
 }
 
-// The stations in round steps.
+// The stations in round steps, and the last one where there is room for its number.
 fn station_axis(view: View) {
-    let step = picture::step(view.length as u64, STATION_STEPS) as u64;
+    let step = picture::step(view.length as u64, STATION_STEPS);
     for k in 0..STATION_STEPS + 1 {
-        let station = k as u64 * step;
+        let station = k as u64 * step as u64;
         if station <= view.length as u64 {
             station_tick(view, station as u32);
         }
+    }
+    if view.length / 32 < view.length % step {
+        station_tick(view, view.length);
     }
     text(b"<text x=\"153000\" y=\"64000\">station, m</text>\n");
 }
@@ -429,7 +432,7 @@ fn curve(view: View, heights: &[i32], c: Curve, crest: bool) {
     }
 }
 
-// The curves, each a crest or a sag by the grades before and behind it.
+// The curves, each a crest or a sag by the grades before and behind it. One that changes no grade is not drawn.
 fn curves(view: View, road: Road, heights: &[i32]) {
     let count = road.count as usize;
     let mut grade = road.first_grade;
@@ -438,7 +441,9 @@ fn curves(view: View, road: Road, heights: &[i32]) {
         if k < count {
             let c = road.curves[k];
             let out = c.grade_out;
-            curve(view, heights, c, out < grade);
+            if out != grade {
+                curve(view, heights, c, out < grade);
+            }
             grade = out;
         }
     }

@@ -1,11 +1,11 @@
 -- `down` meets its contract: what is drawn of a height that is shown is no more than the plot's height (`drawn-within`).
-use mathlib.Core.Path.{_≡_, refl, sym, _∙_}
+use mathlib.Core.Path.{_≡_, refl}
 use Prim.Native.Nat.{_*_, _-_, _/_, _≤_, min}
 use native.Mathlib.Nat.{min-le-right, div-zero}
 use native.Mathlib.Omega.{arith}
 use borrow.Author.Needs.{needs}
 use Rattle.picture.specs.Picture.{shown, down}
-use Rattle.picture.proofs.Laws.{drawn-above, drawn-within, exaggeration-stretch}
+use Rattle.picture.proofs.Laws.{drawn-above, drawn-within}
 use Rattle.picture.proofs.down.Statement.{statement}
 use Rattle.picture.proofs.down.Tie as tie
 

@@ -1,6 +1,6 @@
 -- `exaggeration` meets its contract. The loop's invariant: the answer is that of the search from place `i` on. The measure is
 -- what is left of the table.
-use Prim.Native.Nat.{ℕ, _≤_, _-_, _+_, _*_}
+use Prim.Native.Nat.{ℕ, _≤_, _-_}
 use mathlib.Core.Path.{_≡_, refl, sym, _∙_}
 use mathlib.Core.Bool.{Bool}
 use native.Mathlib.Omega.{arith}

@@ -1,13 +1,11 @@
 -- `lift` meets its contract: the sum is small, and not negative (`lifted-natural`).
 use mathlib.Core.Path.{_≡_, ap}
-use borrow.Author.Needs.{needs}
 use native.Mathlib.Omega.{arith}
 use lib.IntN.{pos, natAbs, _+ℤ_}
 use lib.Signed.{natAbs-le}
 use mir.Syntax.{w32, w64}
 use mir.Val.{toZ, ofZ}
-use Rattle.whole.proofs.Range.{Reads, add-size, leafR, countR, fits-by, same-by, sizes}
-use Rattle.whole.proofs.Range.{reads as reading}
+use Rattle.whole.proofs.Range.{Reads, add-size, leafR, countR, fits-by, same-by, sizes, reads as reading}
 use Rattle.picture.specs.Picture.{lifted}
 use Rattle.picture.proofs.Laws.{lifted-natural}
 use Rattle.picture.proofs.lift.Statement.{statement}

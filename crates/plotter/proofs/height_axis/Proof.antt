@@ -1,19 +1,12 @@
-use Prim.Native.Nat.{_/_}
+-- `height_axis` is safe: a step is not 0 and at most 10,000,000 (`step-positive`, `step-at-most`), so that each tick fits. The
+-- measure is what is left of the ticks.
+use Prim.Native.Nat.{_/_, _≤_, _<_, _-_, _+_}
 use native.Mathlib.Nat.{mul-le-mul, div-le-self}
-use Rattle.picture.proofs.Laws.{step-positive, step-at-most}
-use Prim.Native.Nat.{ℕ, _≤_, _<_, _-_, _+_, _*_}
 use borrow.Author.Needs.{needs}
 use native.Mathlib.Omega.{arith}
-use lib.ListN.{length, getD}
-use mathlib.Core.Path.{_≡_, refl, ap, sym, subst, _∙_}
+use Rattle.picture.proofs.Laws.{step-positive, step-at-most}
 use Rattle.plotter.proofs.height_axis.Statement.{statement}
 use Rattle.plotter.proofs.height_axis.Tie as tie
-use Rattle.plotter.proofs.height_axis.Reads as reads
-use Rattle.plotter.proofs.height_axis.Lts as lts
-use Rattle.picture.proofs.shown.Reads as shown-reads
-use Rattle.picture.proofs.step.Reads as step-reads
-use Rattle.plotter.proofs.height_tick.Reads as height-tick-reads
-use Rattle.plotter.proofs.text.Reads as text-reads
 
 abbrev Inv-loop : tie.InvT-loop
 Inv-loop view shown step first k₀ t7 t8 k = Unit {0}
@@ -30,74 +23,57 @@ first-small c =
     let s = c .before .before .before .before .before in
     omega (arith, div-le-self (s .args .view .foot) (c .before .before .before .step .result))
 
--- src/main.rt:279:9
 shown-requires : tie.Need-shown-requires Inv-loop μ-loop
 shown-requires c κs = search needs
 
--- src/main.rt:280:16
 step-requires : tie.Need-step-requires Inv-loop μ-loop
 step-requires c κs = search needs
 
--- src/main.rt:280:16
 cast-step : tie.Need-cast-step Inv-loop μ-loop
 cast-step c = search needs
 
--- src/main.rt:281:17
 div-first : tie.Need-div-first Inv-loop μ-loop
 div-first c = pace (c .before) .0
 
--- src/main.rt:282:5
 loop-holds : tie.Need-loop-holds Inv-loop μ-loop
 loop-holds c = search needs
 
--- src/main.rt:283:31
 cast-height : tie.Need-cast-height Inv-loop μ-loop
 cast-height c = search needs
 
--- src/main.rt:283:23
 add-height : tie.Need-add-height Inv-loop μ-loop
 add-height c = omega (arith, first-small c)
 
--- src/main.rt:283:22
 mul-height : tie.Need-mul-height Inv-loop μ-loop
 mul-height c =
     let f = first-small c in
     let m : c .before .before .before .before .before .args .view .foot / c .before .before .before .step .result + c .before .loop .k ≤ 6000000012 = omega arith in
     omega (arith, mul-le-mul m (pace (c .before .before .before) .1))
 
--- src/main.rt:286:17
 height-tick-requires : tie.Need-height-tick-requires Inv-loop μ-loop
 height-tick-requires c κs = search needs
 
--- src/main.rt:282:9
 add-k : tie.Need-add-k Inv-loop μ-loop
 add-k c = search needs
 
--- src/main.rt:282:5
 loop-less : tie.Need-loop-less Inv-loop μ-loop
 loop-less c = search needs
 
--- src/main.rt:282:5
 loop-again : tie.Need-loop-again Inv-loop μ-loop
 loop-again c = search needs
 
--- src/main.rt:290:10
 slice-aggregate-text : tie.Need-slice-aggregate-text Inv-loop μ-loop
 slice-aggregate-text c = search needs
 
--- src/main.rt:290:5
 text-requires : tie.Need-text-requires Inv-loop μ-loop
 text-requires c κs = search needs
 
--- src/main.rt:291:10
 slice-aggregate-text-2 : tie.Need-slice-aggregate-text-2 Inv-loop μ-loop
 slice-aggregate-text-2 c = search needs
 
--- src/main.rt:291:5
 text-requires-2 : tie.Need-text-requires-2 Inv-loop μ-loop
 text-requires-2 c κs = search needs
 
--- src/main.rt:276:1
 returns : tie.Need-returns Inv-loop μ-loop
 returns c = search needs
 

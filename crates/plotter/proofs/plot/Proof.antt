@@ -5,10 +5,8 @@ use borrow.Author.Needs.{needs}
 use native.Mathlib.Omega.{arith}
 use lib.ListN.{length}
 use lib.Seq.{length-take-le}
-use Rattle.terms.specs.declared.Verdict.the-variants.{Accepted}
 use Rattle.road.proofs.Accepted.{SoundRoad, accepted-road}
 use Rattle.file.specs.declared.ReadRoad.{ReadRoad}
-use Rattle.file.specs.File.{roadIn}
 use Rattle.file.specs.Operations.{readVerdict, readRoad}
 use Rattle.file.proofs.Sound.{accepted-file, read-accepted}
 use Rattle.plotter.proofs.plot.Statement.{statement}

@@ -1,15 +1,8 @@
-use Prim.Native.Nat.{ℕ, _≤_, _<_, _-_, _+_, _*_}
+-- `zone_labels` is safe: each place of a zone is below twice their number. The measure is what is left of the zones.
+use Prim.Native.Nat.{_-_}
 use borrow.Author.Needs.{needs}
-use native.Mathlib.Omega.{arith}
-use lib.ListN.{length, getD}
-use mathlib.Core.Path.{_≡_, refl, ap, sym, subst, _∙_}
 use Rattle.plotter.proofs.zone_labels.Statement.{statement}
 use Rattle.plotter.proofs.zone_labels.Tie as tie
-use Rattle.plotter.proofs.zone_labels.Reads as reads
-use Rattle.plotter.proofs.zone_labels.Lts as lts
-use Rattle.plotter.proofs.station.Reads as station-reads
-use Rattle.plotter.proofs.x_of.Reads as x-of-reads
-use Rattle.plotter.proofs.zone_label.Reads as zone-label-reads
 
 abbrev Inv-loop : tie.InvT-loop
 Inv-loop view ends count free₀ k₀ free k = Unit {0}
@@ -17,87 +10,66 @@ Inv-loop view ends count free₀ k₀ free k = Unit {0}
 abbrev μ-loop : tie.MeasureT-loop
 μ-loop view ends count free₀ k₀ free k = count - k
 
--- src/main.rt:504:5
 loop-holds : tie.Need-loop-holds Inv-loop μ-loop
 loop-holds c = search needs
 
--- src/main.rt:505:34
 mul-station : tie.Need-mul-station Inv-loop μ-loop
 mul-station c = search needs
 
--- src/main.rt:505:29
 mul-station-2 : tie.Need-mul-station-2 Inv-loop μ-loop
 mul-station-2 c = search needs
 
--- src/main.rt:505:29
 shared-slice-read-station : tie.Need-shared-slice-read-station Inv-loop μ-loop
 shared-slice-read-station c = search needs
 
--- src/main.rt:505:13
 station-requires : tie.Need-station-requires Inv-loop μ-loop
 station-requires c κs = search needs
 
--- src/main.rt:506:33
 mul-station-3 : tie.Need-mul-station-3 Inv-loop μ-loop
 mul-station-3 c = search needs
 
--- src/main.rt:506:33
 add-station : tie.Need-add-station Inv-loop μ-loop
 add-station c = search needs
 
--- src/main.rt:506:28
 mul-station-4 : tie.Need-mul-station-4 Inv-loop μ-loop
 mul-station-4 c = search needs
 
--- src/main.rt:506:28
 shared-slice-read-station-2 : tie.Need-shared-slice-read-station-2 Inv-loop μ-loop
 shared-slice-read-station-2 c = search needs
 
--- src/main.rt:506:13
 station-requires-2 : tie.Need-station-requires-2 Inv-loop μ-loop
 station-requires-2 c κs = search needs
 
--- src/main.rt:507:23
 add-middle : tie.Need-add-middle Inv-loop μ-loop
 add-middle c = search needs
 
--- src/main.rt:508:20
 cast-if1 : tie.Need-cast-if1 Inv-loop μ-loop
 cast-if1 c = search needs
 
--- src/main.rt:509:24
 x-of-requires : tie.Need-x-of-requires Inv-loop μ-loop
 x-of-requires c κs = search needs
 
--- src/main.rt:509:13
 zone-label-requires : tie.Need-zone-label-requires Inv-loop μ-loop
 zone-label-requires c κs = search needs
 
--- src/main.rt:510:20
 cast-free : tie.Need-cast-free Inv-loop μ-loop
 cast-free c = search needs
 
--- src/main.rt:510:36
 cast-free-2 : tie.Need-cast-free-2 Inv-loop μ-loop
 cast-free-2 c = search needs
 
--- src/main.rt:510:20
 add-free : tie.Need-add-free Inv-loop μ-loop
 add-free c = search needs
 
--- src/main.rt:504:9
 add-k : tie.Need-add-k Inv-loop μ-loop
 add-k c = search needs
 
--- src/main.rt:504:5
 loop-less : tie.Need-loop-less Inv-loop μ-loop
 loop-less c = search needs
 
--- src/main.rt:504:5
 loop-again : tie.Need-loop-again Inv-loop μ-loop
 loop-again c = search needs
 
--- src/main.rt:500:1
 returns : tie.Need-returns Inv-loop μ-loop
 returns c = search needs
 
