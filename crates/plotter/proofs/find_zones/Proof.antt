@@ -22,10 +22,10 @@ same-length c = search needs
 returns : tie.Need-returns
 returns c =
     let z = c .before .before .before in
+    let a = z .before .before .before .before .args in
     let kept = z .zones .kept .1 .1 .0 in
     let is : c .metres-of .result ≡ metres (z .zones .result) = c .metres-of .ensures in
-    let room = zones-room (z .before .before .before .before .args .marks .now) (z .before .before .before .before .args .ends .now) (z .before .before .before .before .args .bit) in
-    rw (is, z .zones .ensures .0) (omega (arith, room))
+    rw (is, z .zones .ensures .0) (omega (arith, zones-room (a .marks .now) (a .ends .now) (a .bit)))
 
 pub find-zones-spec : {M : Type 1} → statement M
 find-zones-spec =

@@ -1,6 +1,6 @@
 -- `height_axis` is safe: a step is not 0 and at most 10,000,000 (`step-positive`, `step-at-most`), so that each tick fits. The
 -- measure is what is left of the ticks.
-use Prim.Native.Nat.{_/_, _≤_, _<_, _-_, _+_}
+use Prim.Native.Nat.{ℕ, _/_, _≤_, _<_, _-_, _+_}
 use native.Mathlib.Nat.{mul-le-mul, div-le-self}
 use borrow.Author.Needs.{needs}
 use native.Mathlib.Omega.{arith}
@@ -17,8 +17,11 @@ abbrev μ-loop : tie.MeasureT-loop
 pace : (c : tie.After-step Inv-loop μ-loop) → (0 < c .step .result) × (c .step .result ≤ 10000000)
 pace c = rw (c .step .ensures) (step-positive _ _, step-at-most _ _)
 
-first-small : (c : tie.In-loop Inv-loop μ-loop) →
-    c .before .before .before .before .before .args .view .foot / c .before .before .before .step .result ≤ 6000000000
+-- which step the first tick is
+abbrev first : (c : tie.In-loop Inv-loop μ-loop) → ℕ
+first c = c .before .before .before .before .before .args .view .foot / c .before .before .before .step .result
+
+first-small : (c : tie.In-loop Inv-loop μ-loop) → first c ≤ 6000000000
 first-small c =
     let s = c .before .before .before .before .before in
     omega (arith, div-le-self (s .args .view .foot) (c .before .before .before .step .result))
@@ -47,7 +50,7 @@ add-height c = omega (arith, first-small c)
 mul-height : tie.Need-mul-height Inv-loop μ-loop
 mul-height c =
     let f = first-small c in
-    let m : c .before .before .before .before .before .args .view .foot / c .before .before .before .step .result + c .before .loop .k ≤ 6000000012 = omega arith in
+    let m : first c + c .before .loop .k ≤ 6000000012 = omega arith in
     omega (arith, mul-le-mul m (pace (c .before .before .before) .1))
 
 height-tick-requires : tie.Need-height-tick-requires Inv-loop μ-loop
