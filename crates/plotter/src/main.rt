@@ -367,9 +367,9 @@ fn end_of(c: Curve) -> u32 {
 // What the shapes mean.
 fn key() {
     text(
-        b"<path class=\"crest\" d=\"M1500 13000Q2500 11000 3500 13000Z\"/><text x=\"4000\" y=\"12950\">crest</text>
-<path class=\"sag\" d=\"M8300 12000Q9300 14000 10300 12000Z\"/><text x=\"10800\" y=\"12950\">sag</text>
-<path class=\"crest\" d=\"M14100 13000L14650 12000L15200 13000Z\"/><text x=\"15700\" y=\"12950\">break</text>
+        b"<path class=\"crest\" d=\"M1500 11700Q2500 9700 3500 11700Z\"/><text x=\"4000\" y=\"11650\">crest</text>
+<path class=\"sag\" d=\"M8300 10700Q9300 12700 10300 10700Z\"/><text x=\"10800\" y=\"11650\">sag</text>
+<path class=\"crest\" d=\"M14100 11700L14650 10700L15200 11700Z\"/><text x=\"15700\" y=\"11650\">break</text>
 ",
     );
 }
@@ -495,9 +495,17 @@ fn open_strip(bit: u32) {
     text(b")\">\n<path class=\"lane\" d=\"M22000 1500H150000V3300H22000Z\"/>\n");
 }
 
+// A zone's first and last stations, or its only one.
 fn zone_label(x: u64, first: u32, last: u32) {
-    number(b"<text class=\"zone\" x=\"", x);
-    numbers(b"\" y=\"1200\">", first as u64, b"&#8211;", last as u64);
+    numbers(
+        b"<text class=\"zone\" x=\"",
+        x,
+        b"\" y=\"1200\">",
+        first as u64,
+    );
+    if first < last {
+        number(b"&#8211;", last as u64);
+    }
     text(b"</text>\n");
 }
 
