@@ -33,6 +33,7 @@ struct View {
 }
 
 // ---- writing
+// Words as they stand.
 fn text(words: &[u8]) {
     io::write_all(STDOUT_FILENO, words);
 }
@@ -50,6 +51,7 @@ fn numbers(words: &[u8], n: u64, between: &[u8], m: u64) {
 }
 
 // ---- the view
+// The lowest height.
 fn lowest(heights: &[i32]) -> u64
     ensures { λ r. ⌜ r ≤ 6000000000 ⌝ }
 {
@@ -63,6 +65,7 @@ fn lowest(heights: &[i32]) -> u64
     low
 }
 
+// The highest height.
 fn highest(heights: &[i32]) -> u64 {
     let mut high: u64 = 0;
     for i in 0..heights.len() {
@@ -74,6 +77,7 @@ fn highest(heights: &[i32]) -> u64 {
     high
 }
 
+// How a profile is drawn.
 fn view_of(heights: &[i32], length: u32) -> View
     ensures { λ r. ⌜ r .foot ≤ 6000000000 ⌝ }
 {
@@ -87,10 +91,12 @@ fn view_of(heights: &[i32], length: u32) -> View
     }
 }
 
+// x of a station.
 fn x_of(view: View, station: u32) -> u64 {
     picture::across(station, view.length)
 }
 
+// y of a height.
 fn y_of(view: View, height: u64) -> u64 {
     picture::down(height, view.foot, view.length, view.range)
 }
@@ -177,6 +183,7 @@ fn find_zones(marks: &[u8], bit: u32, ends: &mut [u16]) -> usize
     marks::metres_of(zones::zones(marks, bit, ends)) as usize
 }
 
+// A station as a zone's list holds it.
 fn station(end: u16) -> u32
     ensures { λ r. ⌜ r ≤ 65535 ⌝ }
 {
@@ -355,11 +362,13 @@ fn on_road(station: u32) -> u32
     }
 }
 
+// Where a curve begins.
 fn begin_of(c: Curve) -> u32 {
     let half = (c.length / 2) as u32;
     if c.pvi < half { 0 } else { c.pvi - half }
 }
 
+// Where a curve ends.
 fn end_of(c: Curve) -> u32 {
     on_road(c.pvi) + (c.length / 2) as u32
 }
@@ -449,6 +458,7 @@ fn curves(view: View, road: Road, heights: &[i32]) {
     }
 }
 
+// The number of a curve.
 fn curve_number(x: u64, k: u64) {
     numbers(b"<text class=\"middle\" x=\"", x, b"\" y=\"11500\">", k);
     text(b"</text>\n");
@@ -553,6 +563,7 @@ fn strip(view: View, marks: &[u8], bit: u32) {
     tally(count);
 }
 
+// The strips of all letters.
 fn strips(view: View, marks: &[u8]) {
     for bit in 0..terms::LAST_BIT + 1 {
         strip(view, marks, bit);
@@ -560,6 +571,7 @@ fn strips(view: View, marks: &[u8]) {
 }
 
 // ---- the picture
+// The title and the line below it.
 fn headings(road: Road, view: View) {
     title(view.length as u64);
     subtitle(
@@ -581,6 +593,7 @@ fn ground(view: View, heights: &[i32], marks: &[u8])
     height_axis(view);
 }
 
+// The whole picture, from the ground up.
 fn draw(road: Road, heights: &[i32], marks: &[u8])
     requires { ⌜ length (now heights) ≤ greatestList ⌝ }
 {
