@@ -153,8 +153,8 @@ fn write_lines(speed: u32, purpose: u32, marks: &[u8], text: &mut [u8]) -> usize
     requires { ⌜ (0 < length (now marks)) × (length (now marks) ≤ greatestList) ⌝ }
     ensures { λ r. ⌜ Wrote (linesFor speed purpose (now (marks .entry))) 0 r (now (text .entry)) (now (text .exit)) ⌝ }
 {
-    let stopping = marks::metres_of(distance::required_distance(speed, 0));
-    let decision = marks::metres_of(distance::required_distance(speed, purpose));
+    let stopping = terms::value_or_zero(distance::required_distance(speed, terms::STOPPING));
+    let decision = terms::value_or_zero(distance::required_distance(speed, purpose));
     let next = write_first(speed, stopping, decision, text, 0);
     write_bits(marks, text, next)
 }

@@ -11,14 +11,13 @@ use lib.Dec.{T, ltb, eqb, eqb→eq, ltb→lt}
 use lib.IntN.{ℤ}
 use lib.ListN.{length}
 use mir.Val.{boolByte}
+use Rattle.terms.specs.Answers.{valueOrZero}
 use Rattle.terms.specs.Limits.{greatestList, greatestFarthest, eyeHeight, objectHeight}
-use Rattle.terms.specs.declared.Answer.{Answer}
-use Rattle.terms.specs.declared.Answer.the-variants.{Number, Refused}
-use Rattle.terms.proofs.Laws.{AtMost, not-outside}
+use Rattle.terms.proofs.Laws.{not-outside}
 use Rattle.sight.specs.Sight.{least, availableSight}
 use Rattle.sight.specs.Operations.{sightAnswer}
 use Rattle.sight.proofs.Reach.{sight-le-far, sight-least}
-use Rattle.marks.specs.Marks.{bit, judged, lacking, markOf, metres}
+use Rattle.marks.specs.Marks.{bit, judged, lacking, markOf}
 
 -- ---- five bits in one byte
 abbrev joined : Bool → Bool → Bool → Bool → Bool → ℕ
@@ -109,21 +108,16 @@ module _ (list : List ℤ) (i : ℕ) where
       (sum-cong (judged list stopping i) (judged list decision i) _ _ _ _
       (λ t. (rw (e t) (lacking-farther stopping far l), rw (e t) (lacking-farther decision far m))))
 
-  -- the metres of a sight that is asked for in its ranges; up to 0 m, where asking is refused, there are none
-  pub sight-metres : (far : ℕ) → i < length list → length list ≤ greatestList → far ≤ greatestFarthest →
-      metres (sightAnswer list i eyeHeight objectHeight far) ≡ markSight list i far
+  -- the value of a sight that is asked for in its ranges; up to 0 m, where asking is refused, there are none
+  pub sight-value : (far : ℕ) → i < length list → length list ≤ greatestList → far ≤ greatestFarthest →
+      valueOrZero (sightAnswer list i eyeHeight objectHeight far) ≡ markSight list i far
   unfolding sightAnswer
-  sight-metres zero l m n =
+  sight-value zero l m n =
       simp (not-outside 1 greatestList (length list) (omega arith, m), lt-leb (length list) i l)
       (omega (arith, sight-le-far list i eyeHeight objectHeight 0))
-  sight-metres (suc k) l m n =
+  sight-value (suc k) l m n =
       simp (
         not-outside 1 greatestList (length list) (omega arith, m),
         lt-leb (length list) i l,
         not-outside 1 greatestFarthest (suc k) (omega arith, n),
       )
-
--- ---- metres of an answer
-pub metres-at-most : (a : Answer) {m : ℕ} → AtMost m a → metres a ≤ m
-metres-at-most (Number n) h = h
-metres-at-most (Refused k) h = omega arith

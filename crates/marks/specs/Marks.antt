@@ -5,11 +5,11 @@ use mathlib.Core.List.{List}
 use lib.Dec.{ltb, leb}
 use lib.IntN.{ℤ}
 use lib.ListN.{length}
-use Rattle.terms.specs.Answers.{outside, listOutside, refuse, written}
-use Rattle.terms.specs.Limits.{leastSpeed, greatestSpeed, firstDecision, lastPurpose, eyeHeight, objectHeight}
+use Rattle.terms.specs.Answers.{outside, listOutside, refuse, written, valueOrZero}
+use Rattle.terms.specs.Limits.{leastSpeed, greatestSpeed, stoppingPurpose, firstDecision, lastPurpose, eyeHeight, objectHeight}
 use Rattle.terms.specs.Refusals.{speedRefused, purposeRefused, listRefused, roomRefused}
 use Rattle.terms.specs.declared.Answer.{Answer}
-use Rattle.terms.specs.declared.Answer.the-variants.{Number, Refused}
+use Rattle.terms.specs.declared.Answer.the-variants.{Number}
 use Rattle.distance.specs.Distance.{requiredDistance}
 use Rattle.sight.specs.Sight.{availableSight}
 
@@ -40,15 +40,10 @@ markOf heights stopping decision i =
     + bit 3 (not stop)
     + bit 4 (not decide)
 
--- the metres of a required distance
-abbrev pub metres : Answer → ℕ
-metres (Number n) = n
-metres (Refused k) = 0
-
 -- the mark of station i for a speed and a purpose
 abbrev pub markFor : ℕ → ℕ → List ℤ → ℕ → ℕ
 markFor speed purpose heights i =
-    markOf heights (metres (requiredDistance speed 0)) (metres (requiredDistance speed purpose)) i
+    markOf heights (valueOrZero (requiredDistance speed stoppingPurpose)) (valueOrZero (requiredDistance speed purpose)) i
 
 -- marks from a speed, a decision purpose and heights: refused 6, 7, 19, 14; else how many bytes are written
 unfoldable pub marksAnswer : ℕ → ℕ → List ℤ → List ℕ → Answer

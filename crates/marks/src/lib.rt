@@ -6,21 +6,11 @@ ghost use Rattle.whole.specs.Fill.{filled};
 ghost use Rattle.terms.specs.Limits.{greatestList, greatestFarthest};
 ghost use Rattle.terms.specs.declared.Verdict.the-variants.{Accepted};
 ghost use Rattle.road.specs.Road.{roadVerdict};
-ghost use Rattle.marks.specs.Marks.{bit, markOf, markFor, metres, marksAnswer, marksList};
+ghost use Rattle.marks.specs.Marks.{bit, markOf, markFor, marksAnswer, marksList};
 ghost use Rattle.marks.specs.RoadFile.{ownHeights, markFileAnswer, markFileList};
 use road::Road;
 use terms::Answer;
 use terms::Verdict;
-
-// The metres of a distance or a sight; a refusal has none.
-pub fn metres_of(answer: Answer) -> u32
-    ensures { λ r. ⌜ r ≡ metres answer ⌝ }
-{
-    match answer {
-        Answer::Number(n) => n,
-        Answer::Refused(_) => 0,
-    }
-}
 
 // One byte of five bits, the lowest first: S, D, R, s, d.
 fn compose(
@@ -55,7 +45,13 @@ fn mark_of(heights: &[i32], stopping: u32, decision: u32, i: usize) -> u8
         stopping
     };
     let s = if stop | decide {
-        metres_of(sight::sight(heights, i as u32, terms::EYE, terms::OBJECT, larger))
+        terms::value_or_zero(sight::sight(
+            heights,
+            i as u32,
+            terms::EYE_HEIGHT,
+            terms::OBJECT_HEIGHT,
+            larger,
+        ))
     } else {
         0
     };
@@ -95,8 +91,8 @@ pub fn marks(speed: u32, purpose: u32, heights: &[i32], list: &mut [u8]) -> Answ
     if list.len() < heights.len() {
         return Answer::Refused(terms::ROOM_REFUSED);
     }
-    let stopping = metres_of(distance::required_distance(speed, 0));
-    let decision = metres_of(distance::required_distance(speed, purpose));
+    let stopping = terms::value_or_zero(distance::required_distance(speed, terms::STOPPING));
+    let decision = terms::value_or_zero(distance::required_distance(speed, purpose));
     fill_marks(heights, stopping, decision, list);
     Answer::Number(heights.len() as u32)
 }

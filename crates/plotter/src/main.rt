@@ -136,8 +136,8 @@ fn title(length: u64) {
 
 // The line below it: the speed, the distances that it needs, and the exaggeration.
 fn subtitle(speed: u32, purpose: u32, exaggeration: u32) {
-    let stopping = marks::metres_of(distance::required_distance(speed, 0));
-    let decision = marks::metres_of(distance::required_distance(speed, purpose));
+    let stopping = terms::value_or_zero(distance::required_distance(speed, 0));
+    let decision = terms::value_or_zero(distance::required_distance(speed, purpose));
     number(b"<text class=\"sub\" x=\"1500\" y=\"7000\">", speed as u64);
     numbers(
         b" km/h: stopping sight ",
@@ -180,7 +180,7 @@ fn earth(view: View, heights: &[i32])
 fn find_zones(marks: &[u8], bit: u32, ends: &mut [u16]) -> usize
     ensures { λ r. ⌜ 2 * r ≤ length (now (ends .exit)) ⌝ }
 {
-    marks::metres_of(zones::zones(marks, bit, ends)) as usize
+    terms::value_or_zero(zones::zones(marks, bit, ends)) as usize
 }
 
 // A station as a zone's list holds it.

@@ -11,7 +11,7 @@ use lib.Dec.{T, ltb, nltb→le}
 use lib.IntN.{ℤ}
 use lib.Signed.{_≤ℤ_, ltZ, ltZ-yes, ltZ-no, clashℤ}
 use Rattle.whole.specs.Fill.{filled}
-use Rattle.terms.specs.Answers.{outside, outsideℤ, heightsOutside, refuse, written, fault, unless, signed}
+use Rattle.terms.specs.Answers.{outside, outsideℤ, heightsOutside, refuse, written, fault, unless, valueOrZero, signed}
 use Rattle.terms.specs.Limits.{greatestHeight}
 use Rattle.terms.specs.declared.Answer.{Answer}
 use Rattle.terms.specs.declared.Answer.the-variants.{Number, Refused}
@@ -23,6 +23,10 @@ use Rattle.terms.specs.declared.Verdict.the-variants.{Accepted, Fault}
 abbrev pub AtMost : ℕ → Answer → Type 0
 AtMost m (Number n) = n ≤ m
 AtMost m (Refused k) = k < 256
+
+pub value-at-most : (a : Answer) {m : ℕ} → AtMost m a → valueOrZero a ≤ m
+value-at-most (Number n) h = h
+value-at-most (Refused k) h = omega arith
 
 -- what is not refused is bounded by the rest
 pub refuse-at-most : (test : Bool) (number m : ℕ) (rest : Answer) → number < 256 → (T (not test) → AtMost m rest) → AtMost m (refuse test number rest)

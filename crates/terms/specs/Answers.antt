@@ -52,6 +52,11 @@ abbrev pub written : {A : Type 0} → (ℕ → A) → Answer → List A → List
 written f (Number n) xs = filled f 0 n xs
 written f (Refused k) xs = xs
 
+-- the value of an answer, 0 for a refusal
+abbrev pub valueOrZero : Answer → ℕ
+valueOrZero (Number n) = n
+valueOrZero (Refused k) = 0
+
 -- document 01, "The lister": the answer as the van's program gets it, a refusal being minus its number
 abbrev pub signed : Answer → ℤ
 signed (Number n) = pos n

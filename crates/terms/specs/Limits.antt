@@ -1,4 +1,4 @@
--- The ranges of document 01.
+-- The ranges of document 01, the heights that marks are taken with, and a length for any listing.
 use Prim.Native.Nat.{ℕ}
 use lib.IntN.{ℤ, pos, negℤ}
 
@@ -9,7 +9,10 @@ leastSpeed = 20
 abbrev pub greatestSpeed : ℕ
 greatestSpeed = 130
 
--- the last purpose of the table of reaction times
+-- the purpose of stopping, and the last one of the table of reaction times
+abbrev pub stoppingPurpose : ℕ
+stoppingPurpose = 0
+
 abbrev pub lastPurpose : ℕ
 lastPurpose = 5
 

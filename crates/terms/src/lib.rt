@@ -1,8 +1,8 @@
-// The answer of every operation whose result is a number, and the limits and refusal numbers of document 01 as the code
-// names them. specs/Limits.antt and specs/Refusals.antt give the definitions the same numbers under the same names.
+// The answer of an operation and the verdict on a road, the tests of ranges, and the limits and refusal numbers of document 01
+// as the code names them. specs/Limits.antt and specs/Refusals.antt give the definitions the same numbers under the same names.
 
 ghost use mathlib.Core.Path.{_≡_};
-ghost use Rattle.terms.specs.Answers.{outside, listOutside, heightsOutside, signed};
+ghost use Rattle.terms.specs.Answers.{outside, listOutside, heightsOutside, valueOrZero, signed};
 
 // The value, or the number of the refusal.
 pub enum Answer {
@@ -69,7 +69,9 @@ pub const LEAST_SPEED: u32 = 20;
 
 pub const GREATEST_SPEED: u32 = 130;
 
-// The last purpose of the table of reaction times.
+// The purpose of stopping, and the last one of the table of reaction times.
+pub const STOPPING: u32 = 0;
+
 pub const LAST_PURPOSE: u32 = 5;
 
 // A road: its decision purposes begin at 1; its length in metres, its start height in h-units, its grades in hundredths
@@ -87,6 +89,11 @@ pub const GREATEST_GRADE: i16 = 1500;
 pub const GREATEST_CURVE_COUNT: u8 = 32;
 
 pub const GREATEST_CURVE: u16 = 2000;
+
+// A road's places for curves, and the bytes of the longest road file: 16, and 6 for each curve.
+pub const CURVE_PLACES: usize = 32;
+
+pub const GREATEST_FILE: usize = 208;
 
 // A crest: its drop in grade, in hundredths of a percent; its sight distance and its length, in metres.
 pub const GREATEST_DROP: u32 = 3000;
@@ -108,9 +115,9 @@ pub const GREATEST_FARTHEST: u32 = 8000;
 pub const LAST_BIT: u32 = 4;
 
 // The heights of the eye, 1.08 m, and of the object, 0.60 m, in h-units, that a road is marked with.
-pub const EYE: u32 = 10800;
+pub const EYE_HEIGHT: u32 = 10800;
 
-pub const OBJECT: u32 = 6000;
+pub const OBJECT_HEIGHT: u32 = 6000;
 
 // Bytes that hold any listing.
 pub const GREATEST_LISTING: usize = 280092;
@@ -134,6 +141,16 @@ pub fn heights_outside(eye: u32, object: u32) -> bool
     ensures { λ r. ⌜ r ≡ heightsOutside eye object ⌝ }
 {
     outside(1, GREATEST_HEIGHT, eye) | outside(1, GREATEST_HEIGHT, object)
+}
+
+// The value of an answer, 0 for a refusal.
+pub fn value_or_zero(answer: Answer) -> u32
+    ensures { λ r. ⌜ r ≡ valueOrZero answer ⌝ }
+{
+    match answer {
+        Answer::Number(n) => n,
+        Answer::Refused(_) => 0,
+    }
 }
 
 // The answer as one signed number, a refusal being minus its number.

@@ -3,7 +3,7 @@ use mathlib.Core.Path.{_≡_, ap, _∙_}
 use borrow.Author.Needs.{needs}
 use native.Mathlib.Omega.{arith}
 use Rattle.distance.specs.Distance.{requiredDistance}
-use Rattle.marks.specs.Marks.{metres}
+use Rattle.terms.specs.Answers.{valueOrZero}
 use Rattle.listing.specs.Listing.{firstLine, linesFor}
 use Rattle.listing.specs.Writing.{Wrote}
 use Rattle.listing.proofs.Writing.{wrote-join, room-first, room-next}
@@ -11,19 +11,19 @@ use Rattle.listing.proofs.write_lines.Statement.{statement}
 use Rattle.listing.proofs.write_lines.Tie as tie
 
 -- the distances
-stopping-is : (c : tie.After-metres-of) →
-    c .metres-of .result ≡ metres (requiredDistance (c .before .before .before .before .args .speed) 0)
-stopping-is c = c .metres-of .ensures ∙ ap metres (c .before .required-distance .ensures)
+stopping-is : (c : tie.After-value-or-zero) →
+    c .value-or-zero .result ≡ valueOrZero (requiredDistance (c .before .before .before .before .args .speed) 0)
+stopping-is c = c .value-or-zero .ensures ∙ ap valueOrZero (c .before .required-distance .ensures)
 
-decision-is : (c : tie.After-metres-of2) →
+decision-is : (c : tie.After-value-or-zero2) →
     let a = c .before .before .before .before .before .before .args in
-    c .metres-of2 .result ≡ metres (requiredDistance (a .speed) (a .purpose))
-decision-is c = c .metres-of2 .ensures ∙ ap metres (c .before .required-distance2 .ensures)
+    c .value-or-zero2 .result ≡ valueOrZero (requiredDistance (a .speed) (a .purpose))
+decision-is c = c .value-or-zero2 .ensures ∙ ap valueOrZero (c .before .required-distance2 .ensures)
 
 -- the first line was written
 first : (c : tie.After-write-first) →
     let a = c .before .before .before .before .before .before .before .before .args in
-    Wrote (firstLine (a .speed) (metres (requiredDistance (a .speed) 0)) (metres (requiredDistance (a .speed) (a .purpose)))) 0
+    Wrote (firstLine (a .speed) (valueOrZero (requiredDistance (a .speed) 0)) (valueOrZero (requiredDistance (a .speed) (a .purpose)))) 0
     (c .write-first .result) (a .text .now) (c .write-first .last .1 .1 .1 .0)
 first c =
     let m = c .before .before in
@@ -32,14 +32,14 @@ first c =
 required-distance-requires : tie.Need-required-distance-requires
 required-distance-requires c κs = search needs
 
-metres-of-requires : tie.Need-metres-of-requires
-metres-of-requires c κs = search needs
+value-or-zero-requires : tie.Need-value-or-zero-requires
+value-or-zero-requires c κs = search needs
 
 required-distance-requires-2 : tie.Need-required-distance-requires-2
 required-distance-requires-2 c κs = search needs
 
-metres-of-requires-2 : tie.Need-metres-of-requires-2
-metres-of-requires-2 c κs = search needs
+value-or-zero-requires-2 : tie.Need-value-or-zero-requires-2
+value-or-zero-requires-2 c κs = search needs
 
 write-first-requires : tie.Need-write-first-requires
 unfolding linesFor
@@ -68,9 +68,9 @@ write-lines-spec =
     tie.close
     (tie.spec
     required-distance-requires
-    metres-of-requires
+    value-or-zero-requires
     required-distance-requires-2
-    metres-of-requires-2
+    value-or-zero-requires-2
     write-first-requires
     write-bits-requires
     same-length

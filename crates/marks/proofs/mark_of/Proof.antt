@@ -7,10 +7,11 @@ use Prim.Native.Nat.{_≤_}
 use native.Mathlib.Omega.{arith}
 use borrow.Author.Needs.{needs}
 use lib.Dec.{T}
+use Rattle.terms.specs.Answers.{valueOrZero}
 use Rattle.terms.specs.Limits.{greatestFarthest, eyeHeight, objectHeight}
 use Rattle.sight.specs.Sight.{availableSight}
-use Rattle.marks.specs.Marks.{judged, metres}
-use Rattle.marks.proofs.Mark.{mark-by-sight, sight-metres}
+use Rattle.marks.specs.Marks.{judged}
+use Rattle.marks.proofs.Mark.{mark-by-sight, sight-value}
 use Rattle.marks.proofs.mark_of.Statement.{statement}
 use Rattle.marks.proofs.mark_of.Tie as tie
 
@@ -29,8 +30,8 @@ cast-sight c = search needs
 sight-requires : tie.Need-sight-requires
 sight-requires c κs = search needs
 
-metres-of-requires : tie.Need-metres-of-requires
-metres-of-requires c κs = search needs
+value-or-zero-requires : tie.Need-value-or-zero-requires
+value-or-zero-requires c κs = search needs
 
 compose-requires : tie.Need-compose-requires
 compose-requires c κs = search needs
@@ -45,7 +46,7 @@ searched : (c : tie.Joined2) → let a = c .before .before .args in
 searched c t =
     let b = c .before .before in let far = larger-is (c .before) .2 in
     ⊎-elim
-    (λ w. w .3 ∙ w .2 .ensures ∙ ap metres (w .1 .ensures) ∙ sight-metres _ _ _ (b .pre .0 .0) (b .pre .0 .1) far)
+    (λ w. w .3 ∙ w .2 .ensures ∙ ap valueOrZero (w .1 .ensures) ∙ sight-value _ _ _ (b .pre .0 .0) (b .pre .0 .1) far)
     (λ w. absurd (rw (w .0 .left) at t))
     (c .if2 .came)
 
@@ -63,6 +64,6 @@ mark-of-spec =
     add-decide
     cast-sight
     sight-requires
-    metres-of-requires
+    value-or-zero-requires
     compose-requires
     returns)

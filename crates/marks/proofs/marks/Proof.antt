@@ -10,14 +10,13 @@ use borrow.Author.Tests.{lt-ltb, le-ltb}
 use lib.IntN.{ℤ}
 use lib.ListN.{length}
 use Rattle.whole.specs.Fill.{filled}
-use Rattle.terms.specs.Answers.{outside, listOutside}
+use Rattle.terms.specs.Answers.{outside, listOutside, valueOrZero}
 use Rattle.terms.specs.Limits.{leastSpeed, greatestSpeed, firstDecision, lastPurpose, greatestList, greatestFarthest}
 use Rattle.terms.specs.declared.Answer.the-variants.{Number, Refused}
-use Rattle.terms.proofs.Laws.{not-outside-in}
+use Rattle.terms.proofs.Laws.{value-at-most, not-outside-in}
 use Rattle.distance.specs.Distance.{requiredDistance}
 use Rattle.distance.proofs.Laws.{required-at-most}
-use Rattle.marks.specs.Marks.{markFor, metres, marksAnswer, marksList}
-use Rattle.marks.proofs.Mark.{metres-at-most}
+use Rattle.marks.specs.Marks.{markFor, marksAnswer, marksList}
 use Rattle.marks.proofs.marks.Statement.{statement}
 use Rattle.marks.proofs.marks.Tie as tie
 
@@ -81,33 +80,33 @@ returns-4 c =
 required-distance-requires : tie.Need-required-distance-requires
 required-distance-requires c κs = search needs
 
-metres-of-requires : tie.Need-metres-of-requires
-metres-of-requires c κs = search needs
+value-or-zero-requires : tie.Need-value-or-zero-requires
+value-or-zero-requires c κs = search needs
 
 required-distance-requires-2 : tie.Need-required-distance-requires-2
 required-distance-requires-2 c κs = search needs
 
-metres-of-requires-2 : tie.Need-metres-of-requires-2
-metres-of-requires-2 c κs = search needs
+value-or-zero-requires-2 : tie.Need-value-or-zero-requires-2
+value-or-zero-requires-2 c κs = search needs
 
 -- ---- what the loop is handed
 list-small : (c : tie.Else4) →
     length (c .before .before .before .before .before .before .before .before .args .heights .now) ≤ greatestList
 list-small c = not-outside-in 1 greatestList _ (list-in (c .before)) .1
 
-stopping-is : (c : tie.After-metres-of) →
+stopping-is : (c : tie.After-value-or-zero) →
     let a = c .before .before .before .before .before .before .before .before .before .before .args in
-    c .metres-of .result ≡ metres (requiredDistance (a .speed) 0)
-stopping-is c = c .metres-of .ensures ∙ ap metres (c .before .required-distance .ensures)
+    c .value-or-zero .result ≡ valueOrZero (requiredDistance (a .speed) 0)
+stopping-is c = c .value-or-zero .ensures ∙ ap valueOrZero (c .before .required-distance .ensures)
 
-decision-is : (c : tie.After-metres-of2) →
+decision-is : (c : tie.After-value-or-zero2) →
     let a = c .before .before .before .before .before .before .before .before .before .before .before .before .args in
-    c .metres-of2 .result ≡ metres (requiredDistance (a .speed) (a .purpose))
-decision-is c = c .metres-of2 .ensures ∙ ap metres (c .before .required-distance2 .ensures)
+    c .value-or-zero2 .result ≡ valueOrZero (requiredDistance (a .speed) (a .purpose))
+decision-is c = c .value-or-zero2 .ensures ∙ ap valueOrZero (c .before .required-distance2 .ensures)
 
-metres-small : (speed purpose : ℕ) → metres (requiredDistance speed purpose) ≤ greatestFarthest
+metres-small : (speed purpose : ℕ) → valueOrZero (requiredDistance speed purpose) ≤ greatestFarthest
 metres-small speed purpose =
-    omega (arith, metres-at-most (requiredDistance speed purpose) (required-at-most speed purpose))
+    omega (arith, value-at-most (requiredDistance speed purpose) (required-at-most speed purpose))
 
 fill-marks-requires : tie.Need-fill-marks-requires
 fill-marks-requires c κs =
@@ -145,9 +144,9 @@ marks-spec =
     returns-3
     returns-4
     required-distance-requires
-    metres-of-requires
+    value-or-zero-requires
     required-distance-requires-2
-    metres-of-requires-2
+    value-or-zero-requires-2
     fill-marks-requires
     cast-t17
     same-length

@@ -2,7 +2,7 @@
 use native.Mathlib.Omega.{arith}
 use mathlib.Core.Path.{_≡_}
 use borrow.Author.Needs.{needs}
-use Rattle.marks.specs.Marks.{metres}
+use Rattle.terms.specs.Answers.{valueOrZero}
 use Rattle.plotter.proofs.Laws.{zones-room}
 use Rattle.plotter.proofs.find_zones.Statement.{statement}
 use Rattle.plotter.proofs.find_zones.Tie as tie
@@ -10,8 +10,8 @@ use Rattle.plotter.proofs.find_zones.Tie as tie
 zones-requires : tie.Need-zones-requires
 zones-requires c κs = search needs
 
-metres-of-requires : tie.Need-metres-of-requires
-metres-of-requires c κs = search needs
+value-or-zero-requires : tie.Need-value-or-zero-requires
+value-or-zero-requires c κs = search needs
 
 cast-result : tie.Need-cast-result
 cast-result c = search needs
@@ -24,9 +24,9 @@ returns c =
     let z = c .before .before .before in
     let a = z .before .before .before .before .args in
     let kept = z .zones .kept .1 .1 .0 in
-    let is : c .metres-of .result ≡ metres (z .zones .result) = c .metres-of .ensures in
+    let is : c .value-or-zero .result ≡ valueOrZero (z .zones .result) = c .value-or-zero .ensures in
     rw (is, z .zones .ensures .0) (omega (arith, zones-room (a .marks .now) (a .ends .now) (a .bit)))
 
 pub find-zones-spec : {M : Type 1} → statement M
 find-zones-spec =
-    tie.close (tie.spec zones-requires metres-of-requires cast-result same-length returns)
+    tie.close (tie.spec zones-requires value-or-zero-requires cast-result same-length returns)
