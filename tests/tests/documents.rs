@@ -3,6 +3,7 @@
 use std::collections::{BTreeMap, BTreeSet};
 use std::fs;
 use std::path::{Path, PathBuf};
+use std::process::Command;
 
 use sight_tests::reference::listing::listing;
 
@@ -33,6 +34,16 @@ fn listing_of_the_readme() {
         .collect();
     let file = fs::read(root().join(road)).expect("the road ships with the repository");
     assert_eq!(shown, listing(&file).lines().collect::<Vec<_>>());
+}
+
+/// The picture of the README is the one that the plotter draws of its road.
+#[test]
+fn picture_of_the_readme() {
+    let road = fs::File::open(root().join("roads/three-crests.vcp")).expect("the road ships with the repository");
+    let plotter = root().join("target/bin/plotter");
+    let drawn = Command::new(&plotter).stdin(road).output().expect("the plotter, which `rt ci` built, runs");
+    assert!(drawn.status.success());
+    assert!(drawn.stdout == fs::read(root().join("docs/three-crests.svg")).expect("the picture is there"));
 }
 
 /// The text of the README is how the shipped text begins.
