@@ -241,3 +241,17 @@ pub fn noise(random: &mut Random) -> Vec<u8> {
     }
     file
 }
+
+/// A run of three short crests, each touching the one before, at 90 km/h: the third hides the road that the first two leave in
+/// sight.
+pub fn three_short_crests() -> Road {
+    let crest = |pvi: u32, grade_out: i16| Curve { pvi, length: 2, grade_out };
+    Road {
+        speed: 90,
+        purpose: 1,
+        length: 400,
+        start_height: 0,
+        first_grade: 1_500,
+        curves: vec![crest(199, 700), crest(201, -200), crest(203, -300)],
+    }
+}

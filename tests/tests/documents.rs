@@ -3,8 +3,8 @@
 use std::collections::{BTreeMap, BTreeSet};
 use std::fs;
 use std::path::{Path, PathBuf};
-use std::process::Command;
 
+use sight_tests::program;
 use sight_tests::reference::listing::listing;
 
 fn root() -> PathBuf {
@@ -14,6 +14,11 @@ fn root() -> PathBuf {
 fn text(path: &str) -> String {
     let path = root().join(path);
     fs::read_to_string(&path).unwrap_or_else(|error| panic!("{}: {error}", path.display()))
+}
+
+/// The road file that the README shows.
+fn three_crests() -> Vec<u8> {
+    fs::read(root().join("roads/three-crests.vcp")).expect("the road ships with the repository")
 }
 
 /// The block of a document that begins with a line, without that line.
@@ -26,24 +31,18 @@ fn block<'a>(document: &'a str, first: &str) -> Vec<&'a str> {
 /// The listing of the README, whose lines have words behind two spaces, is that of its road.
 #[test]
 fn listing_of_the_readme() {
-    let road = "roads/three-crests.vcp";
     let readme = text("README.md");
-    let shown: Vec<&str> = block(&readme, &format!("$ make list ROAD={road}"))
+    let shown: Vec<&str> = block(&readme, "$ make list ROAD=roads/three-crests.vcp")
         .into_iter()
         .map(|line| line.split("  ").next().unwrap_or_default())
         .collect();
-    let file = fs::read(root().join(road)).expect("the road ships with the repository");
-    assert_eq!(shown, listing(&file).lines().collect::<Vec<_>>());
+    assert_eq!(shown, listing(&three_crests()).lines().collect::<Vec<_>>());
 }
 
 /// The picture of the README is the one that the plotter draws of its road.
 #[test]
 fn picture_of_the_readme() {
-    let road = fs::File::open(root().join("roads/three-crests.vcp")).expect("the road ships with the repository");
-    let plotter = root().join("target/bin/plotter");
-    let drawn = Command::new(&plotter).stdin(road).output().expect("the plotter, which `rt ci` built, runs");
-    assert!(drawn.status.success());
-    assert!(drawn.stdout == fs::read(root().join("docs/three-crests.svg")).expect("the picture is there"));
+    assert!(program::output("plotter", &three_crests()) == text("docs/three-crests.svg"));
 }
 
 /// The text of the README is how the shipped text begins.

@@ -1,31 +1,13 @@
 //! Document 01, "The lister": the program, from standard input to standard output.
 
-use std::io::Write;
-use std::path::Path;
-use std::process::{Command, Stdio};
-
+use sight_tests::program;
 use sight_tests::random::Random;
 use sight_tests::reference::file::{bytes, read};
 use sight_tests::reference::listing::listing;
 use sight_tests::roads;
 
-/// What the lister, which `rt ci` proved and built, writes for a file.
-fn listed(file: &[u8]) -> String {
-    let program = Path::new(env!("CARGO_MANIFEST_DIR")).join("../target/bin/lister");
-    let mut lister = Command::new(&program)
-        .stdin(Stdio::piped())
-        .stdout(Stdio::piped())
-        .spawn()
-        .unwrap_or_else(|error| panic!("{} does not run: {error}", program.display()));
-    // A file longer than any road's may be left unread in part.
-    let _ = lister.stdin.take().expect("standard input is piped").write_all(file);
-    let output = lister.wait_with_output().expect("the lister ends");
-    assert!(output.status.success());
-    String::from_utf8(output.stdout).expect("a listing is text")
-}
-
 fn compare(file: &[u8]) -> String {
-    let text = listed(file);
+    let text = program::output("lister", file);
     assert_eq!(text, listing(file), "{file:02X?}");
     text
 }

@@ -140,15 +140,7 @@ fn near_the_end_nothing_is_lacking() {
 /// The run of three short crests at 90 km/h (see the tests of sight): station 194 lacks stopping sight.
 #[test]
 fn hump_behind_a_short_crest() {
-    let crest = |pvi: u32, grade_out: i16| Curve { pvi, length: 2, grade_out };
-    let road = Road {
-        speed: 90,
-        purpose: 1,
-        length: 400,
-        start_height: 0,
-        first_grade: 1_500,
-        curves: vec![crest(199, 700), crest(201, -200), crest(203, -300)],
-    };
+    let road = roads::three_short_crests();
     let marks = compare_accepted(&mut Random::new(31), &bytes(&road));
     assert_eq!(marks[194] & (STOPPING_LACKING | REDUCED_DECISION | STOPPING_NOT_JUDGED), STOPPING_LACKING);
     assert!(marks.iter().any(|mark| mark & DECISION_LACKING != 0));

@@ -1,10 +1,8 @@
 //! The plotter: the profile and the zones of its picture, from a separately written calculation.
 
 use std::collections::HashMap;
-use std::io::Write;
-use std::path::Path;
-use std::process::{Command, Stdio};
 
+use sight_tests::program;
 use sight_tests::random::Random;
 use sight_tests::reference::file::{bytes, read};
 use sight_tests::reference::marks::{marks, runs};
@@ -20,21 +18,6 @@ const PROFILE_ROOM: i64 = 40_000;
 
 /// A metre in h-units.
 const METRE: i64 = 10_000;
-
-/// What the plotter, which `rt ci` proved and built, writes for a file.
-fn plotted(file: &[u8]) -> String {
-    let program = Path::new(env!("CARGO_MANIFEST_DIR")).join("../target/bin/plotter");
-    let mut plotter = Command::new(&program)
-        .stdin(Stdio::piped())
-        .stdout(Stdio::piped())
-        .spawn()
-        .unwrap_or_else(|error| panic!("{} does not run: {error}", program.display()));
-    // A file longer than any road's may be left unread in part.
-    let _ = plotter.stdin.take().expect("standard input is piped").write_all(file);
-    let output = plotter.wait_with_output().expect("the plotter ends");
-    assert!(output.status.success());
-    String::from_utf8(output.stdout).expect("a picture is text")
-}
 
 // ---- a picture taken apart
 /// An element: its name, its attributes, the elements that hold it, and the text behind its start.
@@ -148,7 +131,7 @@ fn zones(runs: &[[u16; 2]], length: i64, top: i64, height: i64) -> Vec<[i64; 4]>
 // ---- the comparison
 /// Compares a picture with the second calculation, and answers how many zones it has.
 fn compare(road: &Road) -> usize {
-    let text = plotted(&bytes(road));
+    let text = program::output("plotter", &bytes(road));
     let all = elements(&text);
     assert_eq!(all[0].name, "svg");
     assert_eq!(all[0].get("viewBox"), "0 0 160000 90000");
@@ -236,7 +219,7 @@ fn refused_files() {
             file.extend((0..random.within(1..=400)).map(|_| random.bits() as u8));
         }
         let Err(refusal) = read(&file) else { continue };
-        assert_eq!(plotted(&file), format!("refused {refusal}\n"));
+        assert_eq!(program::output("plotter", &file), format!("refused {refusal}\n"));
         met[refusal as usize] += 1;
     }
     assert!(met[1..].iter().all(|&many| many > 20), "{met:?}");

@@ -6,7 +6,7 @@ use sight_tests::random::Random;
 use sight_tests::reference::distances::required_distance;
 use sight_tests::reference::file::bytes;
 use sight_tests::reference::marks::{EYE, OBJECT};
-use sight_tests::reference::road::{exact_heights, stored_height, Curve, Road};
+use sight_tests::reference::road::{exact_heights, stored_height, Road};
 use sight_tests::reference::sight::{
     ahead, available_sight, clears, seen, sight, sight_profile, whole_heights, Height, Look,
 };
@@ -385,15 +385,7 @@ fn heights_read(road: &Road, turn: Turn) -> Vec<i64> {
 /// the next curve a metre late: it reads station 203, on the third crest, as if the second crest went on.
 #[test]
 fn hump_behind_a_short_crest() {
-    let crest = |pvi: u32, grade_out: i16| Curve { pvi, length: 2, grade_out };
-    let road = Road {
-        speed: 90,
-        purpose: 1,
-        length: 400,
-        start_height: 0,
-        first_grade: 1_500,
-        curves: vec![crest(199, 700), crest(201, -200), crest(203, -300)],
-    };
+    let road = roads::three_short_crests();
     let required = required_distance(road.speed.into(), 0).expect("the speed is accepted");
     assert_eq!(required, 160);
     let look = look(EYE, OBJECT, required);
