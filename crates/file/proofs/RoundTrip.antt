@@ -15,7 +15,7 @@ use Rattle.terms.specs.declared.Verdict.the-variants.{Accepted}
 use Rattle.road.specs.declared.Road.{Road}
 use Rattle.road.specs.Road.{roadVerdict}
 use Rattle.road.proofs.Accepted.{accepted-road}
-use Rattle.file.specs.File.{byteAt, roadIn, headerBytes, fileBytes, cleared}
+use Rattle.file.specs.File.{byteAt, roadIn, headerBytes, fileBytes, SameRoad, cleared}
 use Rattle.file.specs.Operations.{fileLength, readVerdict, readRoad, writeAnswer, writeList}
 use Rattle.file.proofs.Bytes.{file-length}
 use Rattle.file.proofs.Sound.{accepted-file, sound-file, read-accepted}
@@ -55,7 +55,7 @@ module _ (s : List ℕ) (b : Bytes s) (e : readVerdict s ≡ Accepted) where
         rw n at (written-front (roadIn s) (f .road) buffer room (used-in s f)) ∙ read-back s b f,
       )
 
--- ---- written, then read; `cleared-same` of proofs/WrittenBack.antt says that `cleared r` is the same road as r
+-- ---- written, then read
 module _ (r : Road) (held : length (r .curves) ≡ greatestCurveCount) (accepted : roadVerdict r ≡ Accepted) where
   written-accepted : readVerdict (fileBytes r) ≡ Accepted
   unfolding fileBytes headerBytes
@@ -71,6 +71,10 @@ module _ (r : Road) (held : length (r .curves) ≡ greatestCurveCount) (accepted
 
   pub written-then-read : readRoad (fileBytes r) ≡ record { verdict = Accepted; road = cleared r }
   written-then-read = read-accepted (fileBytes r) written-accepted ∙ rw (road-back r held accepted) refl
+
+  -- so it is the same road: all its numbers and its first n curves
+  pub written-then-read-same : SameRoad (readRoad (fileBytes r) .road) r
+  written-then-read-same = rw written-then-read (cleared-same r held accepted)
 
   pub written-into-then-read : (buffer : List ℕ) → fileLength (r .count) ≤ length buffer →
       readRoad (take (fileLength (r .count)) (writeList r buffer)) ≡ record { verdict = Accepted; road = cleared r }
