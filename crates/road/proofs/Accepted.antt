@@ -1,5 +1,5 @@
--- What acceptance says: every number of an accepted road is in its range, and every curve in use is sound and lies behind the
--- one before it; and the other way round.
+-- What acceptance says: every number of an accepted road is in its range, and every curve in use is sound and begins no earlier
+-- than the one listed just before it ends. Sound curves are accepted.
 use Prim.Native.Nat.{ℕ, _≤_, _%_}
 use mathlib.Core.Bool.{Bool, true, false, not}
 use mathlib.Core.List.{List, _∷_}
@@ -19,13 +19,13 @@ use Rattle.road.specs.Road.{half, begin, end, curvesOf, steep, curveVerd
 use Rattle.road.proofs.Faults.{ill-sized, off-road}
 
 -- ---- one curve
--- a curve without a fault, on a road of length n, behind a curve that ends at last
+-- a curve without a fault, on a road of length n, the curve listed just before it ending at last
 pub record SoundCurve (n last : ℕ) (c : Curve) : Type 0 where
   pub grade-low : negℤ (pos greatestGrade) ≤ℤ c .«grade_out»
   pub grade-high : c .«grade_out» ≤ℤ pos greatestGrade
   pub even : c .length % 2 ≡ 0
   pub short : c .length ≤ greatestCurve
-  pub behind-zero : half c ≤ c .pvi
+  pub from-zero : half c ≤ c .pvi
   pub before-end : end c ≤ n
   pub ordered : last ≤ begin c
 
@@ -52,7 +52,7 @@ accepted-curve n last c cs e =
         grade-high = g .1;
         even = not-odd (c .length % 2) (s .0);
         short = nltb→le greatestCurve (c .length) (s .1);
-        behind-zero = nltb→le (c .pvi) (half c) (p .0);
+        from-zero = nltb→le (c .pvi) (half c) (p .0);
         before-end = nltb→le n (end c) (p .1);
         ordered = nltb→le (begin c) last (order .0);
       },
@@ -63,7 +63,7 @@ pub sound-curve : (n last : ℕ) (c : Curve) (cs : List Curve) → SoundCurve n 
     curvesVerdict n last (c ∷ cs) ≡ Accepted
 unfolding curvesVerdict curveVerdict
 sound-curve n last c cs s e =
-    simp (le-ltZ (s .grade-low), le-ltZ (s .grade-high), s .even, le-ltb _ _ (s .short), le-ltb _ _ (s .behind-zero), le-ltb _ _ (s .before-end), le-ltb _ _ (s .ordered)) e
+    simp (le-ltZ (s .grade-low), le-ltZ (s .grade-high), s .even, le-ltb _ _ (s .short), le-ltb _ _ (s .from-zero), le-ltb _ _ (s .before-end), le-ltb _ _ (s .ordered)) e
 
 -- ---- a road
 -- every number of the road is in its range, and no curve has a fault
@@ -109,8 +109,3 @@ accepted-road r e =
       grade-high = g .1;
       curves = grade .1;
     }
-
-pub sound-road : (r : Road) → SoundRoad r → roadVerdict r ≡ Accepted
-unfolding roadVerdict
-sound-road r s =
-    simp (le-ltb _ _ (s .count), le-ltb _ _ (s .speed-low), le-ltb _ _ (s .speed-high), le-ltb _ _ (s .purpose-low), le-ltb _ _ (s .purpose-high), le-ltb _ _ (s .length-low), le-ltb _ _ (s .length-high), le-ltZ (s .start-low), le-ltZ (s .start-high), le-ltZ (s .grade-low), le-ltZ (s .grade-high)) (s .curves)

@@ -26,9 +26,9 @@ use Rattle.road.specs.Walk.{Near, Mild, heightAlong, heightOver, exactAh
 use Rattle.road.proofs.Accepted.{SoundCurve}
 
 -- ---- sizes
--- the farthest from zero that a walk on a road stands
-abbrev pub farthest : ℕ
-farthest = natAbs highestStart + greatestGrade * greatestRoad
+-- how far from zero a walk on a road can stand
+abbrev pub heightBound : ℕ
+heightBound = natAbs highestStart + greatestGrade * greatestRoad
 
 -- a signed number of a known size, as the machine reads it
 abbrev pub knownR : (w : Width) (z : ℤ) (b : ℕ) → natAbs z ≤ b → Reads (toZ w (ofZ w z)) z
@@ -39,7 +39,7 @@ pub range-size : {a b : ℕ} (z : ℤ) → a ≤ b → negℤ (pos a) ≤ℤ z �
 range-size {b} (pos n) l low high = omega (arith, le-to high (nat n) (nat b))
 range-size {a} (negsuc n) l low high = omega (arith, le-to low (neg (nat a)) (var (negsuc n)))
 
-pub near-height : (at : Walk) → Near at → at .station ≤ greatestRoad → natAbs (at .height) ≤ farthest
+pub near-height : (at : Walk) → Near at → at .station ≤ greatestRoad → natAbs (at .height) ≤ heightBound
 near-height at n l = omega (arith, n .height-size)
 
 -- on along the straight
@@ -63,7 +63,7 @@ floor-size-by n zero k h = omega arith
 floor-size-by (pos n) (suc d) k h = div-le-of-le-mul (suc d) (omega arith)
 floor-size-by (negsuc n) (suc d) k h = omega (arith, div-lt-iff-lt-mul {k = suc d} {x = n} {y = k} (omega arith) .1 (omega arith))
 
--- what the bend adds to the straight from its begin: at most half of what the grades differ by, a metre
+-- what the bend adds to the straight: at most the greatest grade a metre, half of what two grades can differ by
 pub bend-size : (gin gout : ℤ) (L d : ℕ) → natAbs gin ≤ greatestGrade → natAbs gout ≤ greatestGrade → d ≤ L →
     natAbs (floorDiv ((gout -ℤ gin) *ℤ pos d *ℤ pos d) (pos (2 * L))) ≤ greatestGrade * d
 bend-size gin gout L d hin hout l =
@@ -96,7 +96,7 @@ module _ (x₀ : ℕ) (z g : ℤ) (c : Curve) (cs : List Curve) (x : ℕ) where
       let after : begin c < x = omega arith in
       simp (lt-leb _ _ after, lt-leb _ _ l)
 
--- up to its end the curves behind it do not count
+-- up to its end the curves after it do not count
 pub exact-upto : (x₀ : ℕ) (z g : ℤ) (c : Curve) (cs : List Curve) (x : ℕ) → x ≤ end c →
     exactFrom x₀ z g (c ∷ cs) x ≡ exactFrom x₀ z g (c ∷ []) x
 unfolding exactFrom
@@ -126,7 +126,7 @@ near-past n at c near s =
     let turn = add-size (at .grade) (c .«grade_out») _ _ (near .grade-size) out in
     let rise = mul-size (at .grade +ℤ c .«grade_out») (pos (half c)) (greatestGrade + greatestGrade) (half c) turn (omega arith) in
     let top = add-size (along at (begin c) .height) ((at .grade +ℤ c .«grade_out») *ℤ pos (half c)) _ _ (foot .height-size) rise in
-    record { height-size = omega (arith, s .behind-zero); grade-size = out }
+    record { height-size = omega (arith, s .from-zero); grade-size = out }
 
 -- the row along the straight and the row over the curve are the profile's up to the curve's end
 pub filled-past : (n b : ℕ) (at foot : Walk) (c : Curve) (xs ys zs : List ℤ) → SoundCurve n (at .station) c → b ≡ begin c → foot ≡ along at b →
@@ -135,7 +135,7 @@ pub filled-past : (n b : ℕ) (at foot : Walk) (c : Curve) (xs ys zs : List ℤ)
     zs ≡ filled (λ x. floor (exactAhead at (c ∷ []) x)) (at .station + 1) (end c - at .station) xs
 filled-past n b at foot c xs ys zs s e f p q =
     let x₀ = at .station in let z = at .height in let g = at .grade in
-    let run : begin c + c .length ≡ end c = omega (arith, s .even, s .behind-zero) in
+    let run : begin c + c .length ≡ end c = omega (arith, s .even, s .from-zero) in
     let order : x₀ ≤ begin c = s .ordered in
     filled-then _ _ _ (x₀ + 1) (begin c - x₀) (begin c + 1) (c .length) (end c - x₀) xs ys zs (rw e at p) (rw (f, e) at q) (omega arith) (omega arith)
     (λ x l u. sym (floor-whole (straight z g (x - x₀))) ∙ ap floor (sym (exact-before x₀ z g c [] x (omega arith))))

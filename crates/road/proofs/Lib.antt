@@ -1,7 +1,6 @@
 pub mod Accepted
 pub mod Along
 pub mod Faults
-pub mod Fits
 pub mod HeightsAnswer
 pub mod Places
 pub mod Profile

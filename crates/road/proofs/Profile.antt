@@ -1,5 +1,5 @@
 -- Laws of the exact profile: every exact height has a positive denominator, the stored height is its floor, and at a
--- curve's end it is whole. On a curve, behind its begin and up to its end, the length is not 0; so none of this needs an
+-- curve's end it is whole. On a curve, after its begin and up to its end, the length is not 0; so none of this needs an
 -- accepted road.
 use mathlib.Core.Path.{_≡_}
 use mathlib.Core.Bool.{Bool, true, false, not, cond}

@@ -94,7 +94,7 @@ module _ (r : Road) (i : ℕ) (at : Walk) (c : Curve) (first list : List ℤ) (w
         grade-high = s .grade-high;
         even = s .even;
         short = s .short;
-        behind-zero = s .behind-zero;
+        from-zero = s .from-zero;
         before-end = omega (arith, s .before-end);
         ordered = s .ordered;
       } refl

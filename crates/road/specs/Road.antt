@@ -32,7 +32,8 @@ curvesOf r = take (r .count) (r .curves)
 abbrev pub steep : ℤ → Bool
 steep g = outsideℤ (negℤ (pos greatestGrade)) (pos greatestGrade) g
 
--- the faults of one curve of a road of length n, behind a curve that ends at last: 10, 11, 12, 13, else as the rest says
+-- the faults of one curve of a road of length n, the curve listed just before it ending at last: 10, 11, 12, 13, else as the
+-- rest says
 unfoldable pub curveVerdict : ℕ → ℕ → Curve → Verdict → Verdict
 curveVerdict n last c rest =
     fault (steep (c .«grade_out»)) gradeRefused
@@ -40,12 +41,12 @@ curveVerdict n last c rest =
     (fault (ltb (c .pvi) (half c) || ltb n (end c)) curvePlaceRefused
     (fault (ltb (begin c) last) curveOrderRefused rest)))
 
--- the curves in turn, each behind the one listed just before it
+-- the curves in turn, each with the end of the one listed just before it
 unfoldable pub curvesVerdict : ℕ → ℕ → List Curve → Verdict
 curvesVerdict n last [] = Accepted
 curvesVerdict n last (c ∷ cs) = curveVerdict n last c (curvesVerdict n (end c) cs)
 
--- 4, 6, 7, 8, 9, 10, then the curves; the first of them lies behind station 0
+-- 4, 6, 7, 8, 9, 10, then the curves; the first has no curve before it, so last is station 0
 unfoldable pub roadVerdict : Road → Verdict
 roadVerdict r =
     fault (ltb greatestCurveCount (r .count)) curveCountRefused

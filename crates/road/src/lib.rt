@@ -30,7 +30,7 @@ pub struct Road {
     pub start_height: i32,
     pub first_grade: i16,
     pub count: u8,
-    pub curves: [Curve; 32],
+    pub curves: [Curve; terms::CURVE_PLACES],
 }
 
 // Whether a grade is beyond its range, up or down.
@@ -83,7 +83,7 @@ fn end_of(c: Curve) -> u64
     c.pvi as u64 + (c.length / 2) as u64
 }
 
-// Refusals 10 to 13 of one curve of a road of length `n`, behind a curve that ends at `last`.
+// Refusals 10 to 13 of one curve of a road of length `n`, the curve listed just before it ending at `last`.
 fn curve_verdict(c: Curve, n: u32, last: u64) -> Verdict
     ensures { λ r. ⌜ r ≡ curveVerdict n last c Verdict.Accepted ⌝ }
 {
@@ -105,7 +105,7 @@ fn curve_verdict(c: Curve, n: u32, last: u64) -> Verdict
     Verdict::Accepted
 }
 
-// The curves in use in turn, each behind the one listed just before it; the lowest with a fault decides.
+// The curves in use in turn, each with the end of the one listed just before it; the lowest with a fault decides.
 fn curves_verdict(road: Road) -> Verdict
     requires { ⌜ road .count ≤ greatestCurveCount ⌝ }
     ensures { λ r. ⌜ r ≡ curvesVerdict (road .length) 0 (curvesOf road) ⌝ }

@@ -1,5 +1,5 @@
--- `curves_verdict` meets its contract. The loop's invariant: the verdict of all curves is that of the curves from `i` on, behind
--- a curve that ends at `last`. The measure is the number of curves left. `curves-verdict-step` is the turn.
+-- `curves_verdict` meets its contract. The loop's invariant: the verdict of all curves is that of the curves from `i` on, the one
+-- just before them ending at `last`. The measure is the number of curves left. `curves-verdict-step` is the turn.
 use Prim.Native.Nat.{_≤_, _-_, _+_}
 use mathlib.Core.Path.{_≡_, refl, sym, _∙_}
 use borrow.Author.Needs.{needs}

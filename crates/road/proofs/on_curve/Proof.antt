@@ -13,7 +13,7 @@ use Rattle.whole.proofs.Floor.{floorR}
 use Rattle.whole.proofs.Range.{Reads, mulB, natB, countR, mulR, fits-by, same-by, sizes}
 use Rattle.whole.proofs.Range.{reads as reading}
 use Rattle.terms.specs.Limits.{greatestGrade, greatestCurve}
-use Rattle.road.proofs.Along.{farthest, knownR, near-height, bend-size, curve-floor}
+use Rattle.road.proofs.Along.{heightBound, knownR, near-height, bend-size, curve-floor}
 use Rattle.road.proofs.on_curve.Statement.{statement}
 use Rattle.road.proofs.on_curve.Tie as tie
 
@@ -26,7 +26,7 @@ module _ (s : tie.Start) where
   grade-out = knownR w16 (s .args .c .«grade_out») greatestGrade (s .pre .1 .grade-size)
 
   abbrev height : Reads (toZ w32 (ofZ w32 (s .args .at .height))) (s .args .at .height)
-  height = knownR w32 (s .args .at .height) farthest (near-height (s .args .at) (s .pre .0) (omega arith))
+  height = knownR w32 (s .args .at .height) heightBound (near-height (s .args .at) (s .pre .0) (omega arith))
 
   abbrev metres : Reads (toZ w64 (s .args .d)) (pos (s .args .d))
   metres = countR w64 (s .args .d) greatestCurve (omega arith)

@@ -7,7 +7,7 @@ use mir.Val.{toZ, ofZ}
 use Rattle.whole.proofs.Range.{Reads, countR, fits-by, same-by, sizes}
 use Rattle.whole.proofs.Range.{reads as reading}
 use Rattle.terms.specs.Limits.{greatestGrade, greatestRoad}
-use Rattle.road.proofs.Along.{farthest, knownR, near-height}
+use Rattle.road.proofs.Along.{heightBound, knownR, near-height}
 use Rattle.road.proofs.on_straight.Statement.{statement}
 use Rattle.road.proofs.on_straight.Tie as tie
 
@@ -17,7 +17,7 @@ module _ (s : tie.Start) where
   grade = knownR w16 (s .args .at .grade) greatestGrade (s .pre .0 .grade-size)
 
   abbrev height : Reads (toZ w32 (ofZ w32 (s .args .at .height))) (s .args .at .height)
-  height = knownR w32 (s .args .at .height) farthest (near-height (s .args .at) (s .pre .0) (omega arith))
+  height = knownR w32 (s .args .at .height) heightBound (near-height (s .args .at) (s .pre .0) (omega arith))
 
   abbrev metres : Reads (toZ w32 (s .args .d)) (pos (s .args .d))
   metres = countR w32 (s .args .d) greatestRoad (omega arith)

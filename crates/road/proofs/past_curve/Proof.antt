@@ -22,10 +22,10 @@ module _ (s : tie.Start) where
   mild = sound-mild sound
 
   run : begin (s .args .c) + s .args .c .length ≡ end (s .args .c)
-  run = omega (arith, sound .even, sound .behind-zero)
+  run = omega (arith, sound .even, sound .from-zero)
 
 begin-of-requires : tie.Need-begin-of-requires
-begin-of-requires c κs = sound c .behind-zero
+begin-of-requires c κs = sound c .from-zero
 
 cast-begin : tie.Need-cast-begin
 cast-begin c = omega (arith, c .begin-of .ensures, run (c .before), sound (c .before) .before-end)

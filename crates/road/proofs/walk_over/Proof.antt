@@ -8,7 +8,7 @@ use Rattle.whole.proofs.Range.{Reads, countR, fits-by, same-by, sizes}
 use Rattle.whole.proofs.Range.{reads as reading}
 use Rattle.terms.specs.Limits.{greatestGrade, greatestCurve}
 use Rattle.road.specs.Road.{half}
-use Rattle.road.proofs.Along.{farthest, knownR, near-height, walk-same}
+use Rattle.road.proofs.Along.{heightBound, knownR, near-height, walk-same}
 use Rattle.road.proofs.walk_over.Statement.{statement}
 use Rattle.road.proofs.walk_over.Tie as tie
 
@@ -21,7 +21,7 @@ module _ (s : tie.Start) where
   grade-out = knownR w16 (s .args .c .«grade_out») greatestGrade (s .pre .1 .grade-size)
 
   abbrev height : Reads (toZ w32 (ofZ w32 (s .args .at .height))) (s .args .at .height)
-  height = knownR w32 (s .args .at .height) farthest (near-height (s .args .at) (s .pre .0) (omega arith))
+  height = knownR w32 (s .args .at .height) heightBound (near-height (s .args .at) (s .pre .0) (omega arith))
 
   abbrev metres : Reads (toZ w32 (half (s .args .c))) (pos (half (s .args .c)))
   metres = countR w32 (half (s .args .c)) greatestCurve (omega arith)
