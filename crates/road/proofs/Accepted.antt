@@ -15,8 +15,7 @@ use Rattle.terms.specs.declared.Verdict.the-variants.{Accepted}
 use Rattle.terms.proofs.Laws.{fault-accepted, neither, inside, inside-ℤ, le-ltZ}
 use Rattle.road.specs.declared.Curve.{Curve}
 use Rattle.road.specs.declared.Road.{Road}
-use Rattle.road.specs.Road.{half, begin, end, curvesOf, steep, curveVerdict, curvesVerdict, roadVerdict}
-use Rattle.road.proofs.Faults.{ill-sized, off-road}
+use Rattle.road.specs.Road.{half, begin, end, curvesOf, gradeOutside, lengthOutside, placeOutside, curveVerdict, curvesVerdict, roadVerdict}
 
 -- ---- one curve
 -- a curve without a fault, on a road of length n, the curve listed just before it ending at last
@@ -40,9 +39,9 @@ pub accepted-curve : (n last : ℕ) (c : Curve) (cs : List Curve) → curvesVerd
     SoundCurve n last c × (curvesVerdict n (end c) cs ≡ Accepted)
 unfolding curvesVerdict curveVerdict
 accepted-curve n last c cs e =
-    let grade = fault-accepted (steep (c .«grade_out»)) gradeRefused _ e in
-    let size = fault-accepted (ill-sized c) curveLengthRefused _ (grade .1) in
-    let place = fault-accepted (off-road n c) curvePlaceRefused _ (size .1) in
+    let grade = fault-accepted (gradeOutside (c .«grade_out»)) gradeRefused _ e in
+    let size = fault-accepted (lengthOutside c) curveLengthRefused _ (grade .1) in
+    let place = fault-accepted (placeOutside n c) curvePlaceRefused _ (size .1) in
     let order = fault-accepted (ltb (begin c) last) curveOrderRefused _ (place .1) in
     let g = inside-ℤ (negℤ (pos greatestGrade)) (pos greatestGrade) (c .«grade_out») (grade .0) in
     let s = neither (not (eqb (c .length % 2) 0)) (ltb greatestCurve (c .length)) (size .0) in
@@ -89,7 +88,7 @@ accepted-road r e =
     let purpose = fault-accepted (outside firstDecision lastPurpose (r .purpose)) purposeRefused _ (speed .1) in
     let length = fault-accepted (outside 1 greatestRoad (r .length)) roadLengthRefused _ (purpose .1) in
     let start = fault-accepted (outsideℤ lowestStart highestStart (r .«start_height»)) startRefused _ (length .1) in
-    let grade = fault-accepted (steep (r .«first_grade»)) gradeRefused _ (start .1) in
+    let grade = fault-accepted (gradeOutside (r .«first_grade»)) gradeRefused _ (start .1) in
     let v = inside leastSpeed greatestSpeed (r .speed) (speed .0) in
     let p = inside firstDecision lastPurpose (r .purpose) (purpose .0) in
     let l = inside 1 greatestRoad (r .length) (length .0) in

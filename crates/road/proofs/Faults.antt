@@ -1,31 +1,24 @@
 -- Verdicts of curves in turn: the first fault among them decides.
-use Prim.Native.Nat.{ℕ, _+_, _≤_, _<_, _%_}
-use mathlib.Core.Bool.{Bool, true, false, not, _||_}
+use Prim.Native.Nat.{ℕ, _+_, _≤_, _<_}
+use mathlib.Core.Bool.{Bool, true, false}
 use mathlib.Core.List.{List, [], _∷_}
 use mathlib.Core.Path.{_≡_, refl}
 use native.Mathlib.Numerals.{add-one}
 use native.Mathlib.Omega.{arith}
-use lib.Dec.{ltb, eqb}
+use lib.Dec.{ltb}
 use lib.ListN.{length, take, drop, getD}
 use lib.Seq.{drop-cons, drop-length, getD-take, length-take-le}
 use Rattle.terms.specs.Answers.{outside, outsideℤ, fault, firstFault}
-use Rattle.terms.specs.Limits.{leastSpeed, greatestSpeed, firstDecision, lastPurpose, greatestRoad, lowestStart, highestStart, greatestCurveCount, greatestCurve}
+use Rattle.terms.specs.Limits.{leastSpeed, greatestSpeed, firstDecision, lastPurpose, greatestRoad, lowestStart, highestStart, greatestCurveCount}
 use Rattle.terms.proofs.Laws.{ByteFault, fault-byte}
 use Rattle.terms.specs.Refusals.{gradeRefused, curveLengthRefused, curvePlaceRefused, curveOrderRefused}
 use Rattle.terms.specs.declared.Verdict.{Verdict}
 use Rattle.terms.specs.declared.Verdict.the-variants.{Accepted}
 use Rattle.road.specs.declared.Curve.{Curve}
 use Rattle.road.specs.declared.Road.{Road}
-use Rattle.road.specs.Road.{half, begin, end, steep, curvesOf, curveVerdict, curvesVerdict, roadVerdict}
+use Rattle.road.specs.Road.{begin, end, gradeOutside, lengthOutside, placeOutside, curvesOf, curveVerdict, curvesVerdict, roadVerdict}
 
 -- ---- one curve
--- the tests of 11 and of 12
-abbrev pub ill-sized : Curve → Bool
-ill-sized c = not (eqb (c .length % 2) 0) || ltb greatestCurve (c .length)
-
-abbrev pub off-road : ℕ → Curve → Bool
-off-road n c = ltb (c .pvi) (half c) || ltb n (end c)
-
 -- the four tests in turn
 abbrev faults : Bool → Bool → Bool → Bool → Verdict → Verdict
 faults grade size place order rest =
@@ -43,7 +36,7 @@ faults-rest false false false false rest = refl
 pub curve-verdict-rest : (n last : ℕ) (c : Curve) (rest : Verdict) → curveVerdict n last c rest ≡ firstFault (curveVerdict n last c Accepted) rest
 unfolding curveVerdict
 curve-verdict-rest n last c rest =
-    faults-rest (steep (c .«grade_out»)) (ill-sized c) (off-road n c) (ltb (begin c) last) rest
+    faults-rest (gradeOutside (c .«grade_out»)) (lengthOutside c) (placeOutside n c) (ltb (begin c) last) rest
 
 -- ---- the curves from a place on
 -- of the first `count` curves, from place i on: the fault of the curve there; else as the curves after it say
@@ -63,9 +56,9 @@ module _ (n last : ℕ) (cs : List Curve) (count : ℕ) (holds : count ≤ lengt
 curve-verdict-byte : (n last : ℕ) (c : Curve) (rest : Verdict) → ByteFault rest → ByteFault (curveVerdict n last c rest)
 unfolding curveVerdict
 curve-verdict-byte n last c rest h =
-    fault-byte (steep (c .«grade_out»)) _ _ (omega arith)
-    (fault-byte (ill-sized c) _ _ (omega arith)
-    (fault-byte (off-road n c) _ _ (omega arith)
+    fault-byte (gradeOutside (c .«grade_out»)) _ _ (omega arith)
+    (fault-byte (lengthOutside c) _ _ (omega arith)
+    (fault-byte (placeOutside n c) _ _ (omega arith)
     (fault-byte (ltb (begin c) last) _ _ (omega arith) h)))
 
 curves-verdict-byte : (n last : ℕ) (cs : List Curve) → ByteFault (curvesVerdict n last cs)
@@ -81,5 +74,5 @@ road-verdict-byte r =
     (fault-byte (outside firstDecision lastPurpose (r .purpose)) _ _ (omega arith)
     (fault-byte (outside 1 greatestRoad (r .length)) _ _ (omega arith)
     (fault-byte (outsideℤ lowestStart highestStart (r .«start_height»)) _ _ (omega arith)
-    (fault-byte (steep (r .«first_grade»)) _ _ (omega arith)
+    (fault-byte (gradeOutside (r .«first_grade»)) _ _ (omega arith)
     (curves-verdict-byte (r .length) 0 (curvesOf r)))))))

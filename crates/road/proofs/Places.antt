@@ -1,20 +1,14 @@
 -- A road that a function is handed has 32 curve places.
 use mathlib.Core.List.{List}
 use mathlib.Core.Path.{_≡_, sym, _∙_}
-use lib.IntN.{pos}
 use lib.ListN.{length, length-map}
 use mir.Val.{Val}
 use denote.Laws.{Is}
 use denote.Struct.Declared.{row}
 use Rattle.terms.specs.Limits.{greatestCurveCount}
-use Rattle.road.specs.declared.Curve.{Curve}
 use Rattle.road.specs.declared.Road.{Road}
 use Rattle.road.proofs.Curve as curve
 use Rattle.road.proofs.Road as road
-
--- what a read past them is taken to give; there is none
-abbrev pub noCurve : Curve
-noCurve = record { pvi = 0; length = 0; «grade_out» = pos 0 }
 
 -- from what owning it tells (`c .good .0` of a first parameter)
 pub curve-places : (r : Road) (vs : List Val) → Is (row road.the-type) r vs → length (r .curves) ≡ greatestCurveCount

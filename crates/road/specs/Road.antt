@@ -28,17 +28,29 @@ end c = c .pvi + half c
 abbrev pub curvesOf : Road → List Curve
 curvesOf r = take (r .count) (r .curves)
 
--- a grade beyond −1,500 to 1,500
-abbrev pub steep : ℤ → Bool
-steep g = outsideℤ (negℤ (pos greatestGrade)) (pos greatestGrade) g
+-- an unused curve place
+abbrev pub noCurve : Curve
+noCurve = record { pvi = 0; length = 0; «grade_out» = pos 0 }
+
+-- a grade is not −1,500 to 1,500
+abbrev pub gradeOutside : ℤ → Bool
+gradeOutside g = outsideℤ (negℤ (pos greatestGrade)) (pos greatestGrade) g
+
+-- a curve's length is odd or over 2,000
+abbrev pub lengthOutside : Curve → Bool
+lengthOutside c = not (eqb (c .length % 2) 0) || ltb greatestCurve (c .length)
+
+-- a curve begins before station 0 or ends after n
+abbrev pub placeOutside : ℕ → Curve → Bool
+placeOutside n c = ltb (c .pvi) (half c) || ltb n (end c)
 
 -- the faults of one curve of a road of length n, the curve listed just before it ending at last: 10, 11, 12, 13, else as the
 -- rest says
 unfoldable pub curveVerdict : ℕ → ℕ → Curve → Verdict → Verdict
 curveVerdict n last c rest =
-    fault (steep (c .«grade_out»)) gradeRefused
-    (fault (not (eqb (c .length % 2) 0) || ltb greatestCurve (c .length)) curveLengthRefused
-    (fault (ltb (c .pvi) (half c) || ltb n (end c)) curvePlaceRefused
+    fault (gradeOutside (c .«grade_out»)) gradeRefused
+    (fault (lengthOutside c) curveLengthRefused
+    (fault (placeOutside n c) curvePlaceRefused
     (fault (ltb (begin c) last) curveOrderRefused rest)))
 
 -- the curves in turn, each with the end of the one listed just before it
@@ -54,5 +66,5 @@ roadVerdict r =
     (fault (outside firstDecision lastPurpose (r .purpose)) purposeRefused
     (fault (outside 1 greatestRoad (r .length)) roadLengthRefused
     (fault (outsideℤ lowestStart highestStart (r .«start_height»)) startRefused
-    (fault (steep (r .«first_grade»)) gradeRefused
+    (fault (gradeOutside (r .«first_grade»)) gradeRefused
     (curvesVerdict (r .length) 0 (curvesOf r)))))))

@@ -7,7 +7,7 @@ ghost use Rattle.whole.specs.Fill.{filled};
 ghost use Rattle.whole.specs.Floor.{floor};
 ghost use Rattle.terms.specs.Answers.{firstFault};
 ghost use Rattle.terms.specs.Limits.{greatestRoad, greatestCurveCount};
-ghost use Rattle.road.specs.Road.{half, begin, end, steep, curvesOf, curveVerdict, curvesVerdict, roadVerdict};
+ghost use Rattle.road.specs.Road.{half, begin, end, gradeOutside, curvesOf, curveVerdict, curvesVerdict, roadVerdict};
 ghost use Rattle.road.specs.Profile.{straight, onCurve, storedHeight};
 ghost use Rattle.road.specs.Walk.{Near, Mild, heightAlong, heightOver, exactAhead, along, over, past};
 ghost use Rattle.road.specs.Heights.{heightsAnswer, heightsList};
@@ -33,9 +33,9 @@ pub struct Road {
     pub curves: [Curve; terms::CURVE_PLACES],
 }
 
-// Whether a grade is beyond its range, up or down.
-fn too_steep(grade: i16) -> bool
-    ensures { λ r. ⌜ r ≡ steep grade ⌝ }
+// Whether a grade is out of its range.
+fn grade_outside(grade: i16) -> bool
+    ensures { λ r. ⌜ r ≡ gradeOutside grade ⌝ }
 {
     (grade < -terms::GREATEST_GRADE) | (terms::GREATEST_GRADE < grade)
 }
@@ -62,7 +62,7 @@ fn numbers_verdict(road: Road) -> Verdict
         return Verdict::Fault(terms::START_REFUSED);
     }
     let grade = road.first_grade;
-    if too_steep(grade) {
+    if grade_outside(grade) {
         return Verdict::Fault(terms::GRADE_REFUSED);
     }
     Verdict::Accepted
@@ -88,7 +88,7 @@ fn curve_verdict(c: Curve, n: u32, last: u64) -> Verdict
     ensures { λ r. ⌜ r ≡ curveVerdict n last c Verdict.Accepted ⌝ }
 {
     let grade = c.grade_out;
-    if too_steep(grade) {
+    if grade_outside(grade) {
         return Verdict::Fault(terms::GRADE_REFUSED);
     }
     let length = c.length;

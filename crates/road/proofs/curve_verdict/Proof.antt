@@ -5,15 +5,15 @@ use borrow.Author.Tests.{ltb-false, lt-ltb, le-ltb}
 use mir.Syntax.{w16}
 use Rattle.whole.proofs.Machine.{got}
 use Rattle.terms.proofs.Laws.{neither-left}
-use Rattle.road.specs.Road.{steep, curveVerdict}
+use Rattle.road.specs.Road.{gradeOutside, curveVerdict}
 use Rattle.road.proofs.curve_verdict.Statement.{statement}
 use Rattle.road.proofs.curve_verdict.Tie as tie
 
-too-steep-requires : tie.Need-too-steep-requires
-too-steep-requires c κs = search needs
+grade-outside-requires : tie.Need-grade-outside-requires
+grade-outside-requires c κs = search needs
 
-grade-tested : (c : tie.After-too-steep) → steep (c .before .before .args .c .«grade_out») ≡ c .too-steep .result
-grade-tested c = sym (rw (got w16 _ (c .before .struct-told .given .1 .1 .0 .1)) at (c .too-steep .ensures))
+grade-tested : (c : tie.After-grade-outside) → gradeOutside (c .before .before .args .c .«grade_out») ≡ c .grade-outside .result
+grade-tested c = sym (rw (got w16 _ (c .before .struct-told .given .1 .1 .0 .1)) at (c .grade-outside .ensures))
 
 returns : tie.Need-returns
 unfolding curveVerdict
@@ -61,7 +61,7 @@ pub curve-verdict-spec : {M : Type 1} → statement M
 curve-verdict-spec =
     tie.close
     (tie.spec
-    too-steep-requires
+    grade-outside-requires
     returns
     returns-2
     cast-half

@@ -6,9 +6,9 @@ use borrow.Author.Needs.{needs}
 use native.Mathlib.Omega.{arith}
 use lib.ListN.{length, getD, drop}
 use Rattle.terms.specs.Answers.{firstFault}
-use Rattle.road.specs.Road.{end, curvesOf, curvesVerdict}
+use Rattle.road.specs.Road.{end, noCurve, curvesOf, curvesVerdict}
 use Rattle.road.proofs.Faults.{curves-verdict-step, curves-verdict-end}
-use Rattle.road.proofs.Places.{noCurve, curve-places}
+use Rattle.road.proofs.Places.{curve-places}
 use Rattle.road.proofs.curves_verdict.Statement.{statement}
 use Rattle.road.proofs.curves_verdict.Tie as tie
 

@@ -12,10 +12,10 @@ use mir.Val.{toZ, ofZ}
 use Rattle.whole.proofs.Fill.{filled-length}
 use Rattle.whole.proofs.Range.{same-by}
 use Rattle.terms.specs.Limits.{highestStart, greatestGrade}
-use Rattle.road.specs.Road.{curvesOf}
+use Rattle.road.specs.Road.{noCurve, curvesOf}
 use Rattle.road.proofs.Accepted.{SoundRoad, accepted-road}
 use Rattle.road.proofs.Along.{knownR}
-use Rattle.road.proofs.Places.{noCurve, curve-places}
+use Rattle.road.proofs.Places.{curve-places}
 use Rattle.road.proofs.Walked.{Walked, near-start, walked-none, next-curve, next-sound, next-on-road, walked-more, walked-all}
 use Rattle.road.proofs.fill_road.Statement.{statement}
 use Rattle.road.proofs.fill_road.Tie as tie

@@ -8,7 +8,7 @@ use mir.Syntax.{w16, w32}
 use Rattle.whole.proofs.Machine.{got}
 use Rattle.terms.specs.Answers.{outsideℤ}
 use Rattle.terms.specs.Limits.{lowestStart, highestStart}
-use Rattle.road.specs.Road.{steep, roadVerdict}
+use Rattle.road.specs.Road.{gradeOutside, roadVerdict}
 use Rattle.road.proofs.numbers_verdict.Statement.{statement}
 use Rattle.road.proofs.numbers_verdict.Tie as tie
 
@@ -46,12 +46,12 @@ returns-4 c =
 start-passed : (c : tie.Else4) → outsideℤ lowestStart highestStart (c .before .before .before .before .before .before .before .args .road .«start_height») ≡ false
 start-passed c = rw (got w32 _ (c .before .struct-told .given .1 .1 .1 .0 .1)) at (c .if4 .left)
 
-too-steep-requires : tie.Need-too-steep-requires
-too-steep-requires c κs = search needs
+grade-outside-requires : tie.Need-grade-outside-requires
+grade-outside-requires c κs = search needs
 
-grade-tested : (c : tie.After-too-steep) →
-    steep (c .before .before .before .before .before .before .before .before .before .args .road .«first_grade») ≡ c .too-steep .result
-grade-tested c = sym (rw (got w16 _ (c .before .struct-told2 .given .1 .1 .1 .1 .0 .1)) at (c .too-steep .ensures))
+grade-tested : (c : tie.After-grade-outside) →
+    gradeOutside (c .before .before .before .before .before .before .before .before .before .args .road .«first_grade») ≡ c .grade-outside .result
+grade-tested c = sym (rw (got w16 _ (c .before .struct-told2 .given .1 .1 .1 .1 .0 .1)) at (c .grade-outside .ensures))
 
 returns-5 : tie.Need-returns-5
 unfolding roadVerdict
@@ -81,6 +81,6 @@ numbers-verdict-spec =
     returns-2
     returns-3
     returns-4
-    too-steep-requires
+    grade-outside-requires
     returns-5
     returns-6)
