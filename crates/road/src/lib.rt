@@ -46,15 +46,14 @@ fn numbers_verdict(road: Road) -> Verdict
     ensures { λ r. ⌜ roadVerdict road ≡ firstFault r (curvesVerdict (road .length) 0 (curvesOf road)) ⌝ }
 {
     let speed = road.speed as u32;
-    if (speed < terms::LEAST_SPEED) | (terms::GREATEST_SPEED < speed) {
+    if terms::outside(terms::LEAST_SPEED, terms::GREATEST_SPEED, speed) {
         return Verdict::Fault(terms::SPEED_REFUSED);
     }
     let purpose = road.purpose as u32;
-    if (purpose < terms::FIRST_DECISION) | (terms::LAST_PURPOSE < purpose) {
+    if terms::outside(terms::FIRST_DECISION, terms::LAST_PURPOSE, purpose) {
         return Verdict::Fault(terms::PURPOSE_REFUSED);
     }
-    let length = road.length;
-    if (length < 1) | (terms::GREATEST_ROAD < length) {
+    if terms::outside(1, terms::GREATEST_ROAD, road.length) {
         return Verdict::Fault(terms::ROAD_LENGTH_REFUSED);
     }
     let start = road.start_height;

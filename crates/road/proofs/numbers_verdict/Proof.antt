@@ -6,79 +6,106 @@ use borrow.Author.Needs.{needs}
 use borrow.Author.Tests.{le-ltb}
 use mir.Syntax.{w16, w32}
 use Rattle.whole.proofs.Machine.{got}
-use Rattle.terms.specs.Answers.{outsideℤ}
+use Rattle.terms.specs.Answers.{outsideℤ, fault}
 use Rattle.terms.specs.Limits.{lowestStart, highestStart}
-use Rattle.road.specs.Road.{gradeOutside, roadVerdict}
+use Rattle.terms.specs.Refusals.{startRefused, gradeRefused}
+use Rattle.road.specs.Road.{gradeOutside, curvesOf, curvesVerdict, roadVerdict}
 use Rattle.road.proofs.numbers_verdict.Statement.{statement}
 use Rattle.road.proofs.numbers_verdict.Tie as tie
 
 cast-speed : tie.Need-cast-speed
 cast-speed c = search needs
 
+outside-requires : tie.Need-outside-requires
+outside-requires c κs = search needs
+
 returns : tie.Need-returns
 unfolding roadVerdict
-returns c = simp (le-ltb _ _ (c .before .before .pre), c .if1 .taken)
+returns c = simp (le-ltb _ _ (c .before .before .before .pre), sym (c .before .outside .ensures) ∙ c .if1 .taken)
 
 cast-purpose : tie.Need-cast-purpose
 cast-purpose c = search needs
 
+outside-requires-2 : tie.Need-outside-requires-2
+outside-requires-2 c κs = search needs
+
 returns-2 : tie.Need-returns-2
 unfolding roadVerdict
 returns-2 c =
-    let speed = c .before .before in
-    simp (le-ltb _ _ (speed .before .before .pre), speed .if1 .left, c .if2 .taken)
+    let speed = c .before .before .before in
+    simp (
+      le-ltb _ _ (speed .before .before .before .pre),
+      sym (speed .before .outside .ensures) ∙ speed .if1 .left,
+      sym (c .before .outside2 .ensures) ∙ c .if2 .taken,
+    )
+
+outside-requires-3 : tie.Need-outside-requires-3
+outside-requires-3 c κs = search needs
 
 returns-3 : tie.Need-returns-3
 unfolding roadVerdict
 returns-3 c =
-    let purpose = c .before in
-    let speed = purpose .before .before in
-    simp (le-ltb _ _ (speed .before .before .pre), speed .if1 .left, purpose .if2 .left, c .if3 .taken)
+    let purpose = c .before .before in
+    let speed = purpose .before .before .before in
+    simp (
+      le-ltb _ _ (speed .before .before .before .pre),
+      sym (speed .before .outside .ensures) ∙ speed .if1 .left,
+      sym (purpose .before .outside2 .ensures) ∙ purpose .if2 .left,
+      sym (c .before .outside3 .ensures) ∙ c .if3 .taken,
+    )
+
+-- the verdict past the test of the length
+past-length : (c : tie.Else3) →
+    let road = c .before .before .before .before .before .before .before .before .args .road in
+    roadVerdict road ≡ fault (outsideℤ lowestStart highestStart (road .«start_height»)) startRefused
+    (fault (gradeOutside (road .«first_grade»)) gradeRefused
+    (curvesVerdict (road .length) 0 (curvesOf road)))
+unfolding roadVerdict
+past-length c =
+    let purpose = c .before .before in
+    let speed = purpose .before .before .before in
+    simp (
+      le-ltb _ _ (speed .before .before .before .pre),
+      sym (speed .before .outside .ensures) ∙ speed .if1 .left,
+      sym (purpose .before .outside2 .ensures) ∙ purpose .if2 .left,
+      sym (c .before .outside3 .ensures) ∙ c .if3 .left,
+    )
 
 returns-4 : tie.Need-returns-4
-unfolding roadVerdict
-returns-4 c =
-    let length = c .before .before in
-    let purpose = length .before in
-    let speed = purpose .before .before in
-    simp (le-ltb _ _ (speed .before .before .pre), speed .if1 .left, purpose .if2 .left, length .if3 .left, rw (got w32 _ (c .before .struct-told .given .1 .1 .1 .0 .1)) at (c .if4 .taken))
+returns-4 c = past-length (c .before .before) ∙ simp (rw (got w32 _ (c .before .struct-told .given .1 .1 .1 .0 .1)) at (c .if4 .taken))
 
-start-passed : (c : tie.Else4) → outsideℤ lowestStart highestStart (c .before .before .before .before .before .before .before .args .road .«start_height») ≡ false
+start-passed : (c : tie.Else4) →
+    outsideℤ lowestStart highestStart (c .before .before .before .before .before .before .before .before .before .before .args .road .«start_height») ≡ false
 start-passed c = rw (got w32 _ (c .before .struct-told .given .1 .1 .1 .0 .1)) at (c .if4 .left)
 
 grade-outside-requires : tie.Need-grade-outside-requires
 grade-outside-requires c κs = search needs
 
 grade-tested : (c : tie.After-grade-outside) →
-    gradeOutside (c .before .before .before .before .before .before .before .before .before .args .road .«first_grade») ≡ c .grade-outside .result
+    gradeOutside (c .before .before .before .before .before .before .before .before .before .before .before .before .args .road .«first_grade») ≡ c .grade-outside .result
 grade-tested c = sym (rw (got w16 _ (c .before .struct-told2 .given .1 .1 .1 .1 .0 .1)) at (c .grade-outside .ensures))
 
 returns-5 : tie.Need-returns-5
-unfolding roadVerdict
 returns-5 c =
     let start = c .before .before .before in
-    let length = start .before .before in
-    let purpose = length .before in
-    let speed = purpose .before .before in
-    simp (le-ltb _ _ (speed .before .before .pre), speed .if1 .left, purpose .if2 .left, length .if3 .left, start-passed start, grade-tested (c .before) ∙ c .if5 .taken)
+    past-length (start .before .before) ∙ simp (start-passed start, grade-tested (c .before) ∙ c .if5 .taken)
 
 returns-6 : tie.Need-returns-6
-unfolding roadVerdict
 returns-6 c =
     let start = c .before .before .before in
-    let length = start .before .before in
-    let purpose = length .before in
-    let speed = purpose .before .before in
-    simp (le-ltb _ _ (speed .before .before .pre), speed .if1 .left, purpose .if2 .left, length .if3 .left, start-passed start, grade-tested (c .before) ∙ c .if5 .left)
+    past-length (start .before .before) ∙ simp (start-passed start, grade-tested (c .before) ∙ c .if5 .left)
 
 pub numbers-verdict-spec : {M : Type 1} → statement M
 numbers-verdict-spec =
     tie.close
     (tie.spec
     cast-speed
+    outside-requires
     returns
     cast-purpose
+    outside-requires-2
     returns-2
+    outside-requires-3
     returns-3
     returns-4
     grade-outside-requires
