@@ -9,7 +9,7 @@ use native.Mathlib.Nat.{mul-le-mul-left, div-lt-iff-lt-mul, div-le-of-le-mul}
 use native.Mathlib.Omega.{arith}
 use lib.IntN.{ℤ, pos, negsuc, natAbs, negℤ, _+ℤ_, _-ℤ_, _*ℤ_}
 use lib.Signed.{_≤ℤ_}
-use mir.Syntax.{Width}
+use mir.Syntax.{Width, w16, w32}
 use mir.Val.{toZ, ofZ}
 use Rattle.whole.specs.Fill.{filled}
 use Rattle.whole.specs.Floor.{whole, floorDiv, floor}
@@ -27,20 +27,27 @@ use Rattle.road.proofs.Accepted.{SoundCurve}
 
 -- ---- sizes
 -- how far from zero a walk on a road can stand
-abbrev pub heightBound : ℕ
+abbrev heightBound : ℕ
 heightBound = natAbs highestStart + greatestGrade * greatestRoad
 
 -- a signed number of a known size, as the machine reads it
-abbrev pub knownR : (w : Width) (z : ℤ) (b : ℕ) → natAbs z ≤ b → Reads (toZ w (ofZ w z)) z
+abbrev knownR : (w : Width) (z : ℤ) (b : ℕ) → natAbs z ≤ b → Reads (toZ w (ofZ w z)) z
 knownR w z b h = readR w record { size = record { b = b; ok = h }; good = true; same = λ t. refl }
+
+-- the grade and the height of a walk, and a curve's grade out, as it reads them
+abbrev pub grade-read : {at : Walk} → Near at → Reads (toZ w16 (ofZ w16 (at .grade))) (at .grade)
+grade-read {at} near = knownR w16 (at .grade) greatestGrade (near .grade-size)
+
+abbrev pub height-read : {at : Walk} → Near at → at .station ≤ greatestRoad → Reads (toZ w32 (ofZ w32 (at .height))) (at .height)
+height-read {at} near l = knownR w32 (at .height) heightBound (omega (arith, near .height-size))
+
+abbrev pub out-read : {c : Curve} → Mild c → Reads (toZ w16 (ofZ w16 (c .«grade_out»))) (c .«grade_out»)
+out-read {c} mild = knownR w16 (c .«grade_out») greatestGrade (mild .grade-size)
 
 -- a number in a range that reaches no farther down than up
 pub range-size : {a b : ℕ} (z : ℤ) → a ≤ b → negℤ (pos a) ≤ℤ z → z ≤ℤ pos b → natAbs z ≤ b
 range-size {b} (pos n) l low high = omega (arith, le-to high (nat n) (nat b))
 range-size {a} (negsuc n) l low high = omega (arith, le-to low (neg (nat a)) (var (negsuc n)))
-
-pub near-height : (at : Walk) → Near at → at .station ≤ greatestRoad → natAbs (at .height) ≤ heightBound
-near-height at n l = omega (arith, n .height-size)
 
 -- on along the straight
 pub near-along : (at : Walk) (x : ℕ) → Near at → at .station ≤ x → Near (along at x)

@@ -5,16 +5,14 @@ use mathlib.Core.Path.{_≡_, ap, _∙_}
 use mathlib.Core.List.{_∷_}
 use borrow.Author.Needs.{needs}
 use native.Mathlib.Omega.{arith}
-use lib.IntN.{natAbs}
 use lib.ListN.{length, drop, getD, set, length-set}
 use mir.Syntax.{w16, w32}
 use mir.Val.{toZ, ofZ}
 use Rattle.whole.proofs.Fill.{filled-length}
 use Rattle.whole.proofs.Range.{same-by}
-use Rattle.terms.specs.Limits.{highestStart, greatestGrade}
 use Rattle.road.specs.Road.{noCurve, curvesOf}
 use Rattle.road.proofs.Accepted.{SoundRoad, accepted-road}
-use Rattle.road.proofs.Along.{knownR}
+use Rattle.road.proofs.Along.{grade-read, height-read}
 use Rattle.road.proofs.Places.{curve-places}
 use Rattle.road.proofs.Walked.{Walked, near-start, walked-none, next-curve, next-sound, next-on-road, walked-more, walked-all}
 use Rattle.road.proofs.fill_road.Statement.{statement}
@@ -35,10 +33,10 @@ module _ (s : tie.Start Inv-loop μ-loop) where
   in-places = omega (arith, curve-places (s .args .t1) _ (s .good .0), sound .count)
 
   height : toZ w32 (ofZ w32 (s .args .t1 .«start_height»)) ≡ s .args .t1 .«start_height»
-  height = same-by (knownR w32 _ (natAbs highestStart) (near-start (s .args .t1) sound .height-size)) tt
+  height = same-by (height-read (near-start (s .args .t1) sound) (omega arith)) tt
 
   grade : toZ w16 (ofZ w16 (s .args .t1 .«first_grade»)) ≡ s .args .t1 .«first_grade»
-  grade = same-by (knownR w16 _ greatestGrade (near-start (s .args .t1) sound .grade-size)) tt
+  grade = same-by (grade-read (near-start (s .args .t1) sound)) tt
 
 -- what holds at the loop's head
 module _ (h : tie.At-loop Inv-loop μ-loop) where

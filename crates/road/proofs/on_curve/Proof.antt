@@ -6,28 +6,19 @@ use mathlib.Core.Path.{_≡_, refl, sym, ap, _∙_}
 use borrow.Author.Needs.{needs}
 use native.Mathlib.Omega.{arith}
 use lib.IntN.{pos, natAbs, _-ℤ_, _*ℤ_}
-use mir.Syntax.{w16, w32, w64}
-use mir.Val.{toZ, ofZ}
+use mir.Syntax.{w64}
+use mir.Val.{toZ}
 use Rattle.whole.specs.Floor.{floorDiv}
 use Rattle.whole.proofs.Floor.{floorR}
 use Rattle.whole.proofs.Range.{Reads, mulB, natB, countR, mulR, fits-by, same-by, sizes}
 use Rattle.whole.proofs.Range.{reads as reading}
 use Rattle.terms.specs.Limits.{greatestGrade, greatestCurve}
-use Rattle.road.proofs.Along.{heightBound, knownR, near-height, bend-size, curve-floor}
+use Rattle.road.proofs.Along.{grade-read, height-read, out-read, bend-size, curve-floor}
 use Rattle.road.proofs.on_curve.Statement.{statement}
 use Rattle.road.proofs.on_curve.Tie as tie
 
 -- what is read
 module _ (s : tie.Start) where
-  abbrev grade-in : Reads (toZ w16 (ofZ w16 (s .args .at .grade))) (s .args .at .grade)
-  grade-in = knownR w16 (s .args .at .grade) greatestGrade (s .pre .0 .grade-size)
-
-  abbrev grade-out : Reads (toZ w16 (ofZ w16 (s .args .c .«grade_out»))) (s .args .c .«grade_out»)
-  grade-out = knownR w16 (s .args .c .«grade_out») greatestGrade (s .pre .1 .grade-size)
-
-  abbrev height : Reads (toZ w32 (ofZ w32 (s .args .at .height))) (s .args .at .height)
-  height = knownR w32 (s .args .at .height) heightBound (near-height (s .args .at) (s .pre .0) (omega arith))
-
   abbrev metres : Reads (toZ w64 (s .args .d)) (pos (s .args .d))
   metres = countR w64 (s .args .d) greatestCurve (omega arith)
 
@@ -38,24 +29,27 @@ cast-x : tie.Need-cast-x
 cast-x c = search needs
 
 cast-g : tie.Need-cast-g
-cast-g c = let g = grade-in (c .before .before) .size in fits-by (search sizes depth 16) tt
+cast-g c = let g = grade-read (c .before .before .pre .0) .size in fits-by (search sizes depth 16) tt
 
 cast-floor-div : tie.Need-cast-floor-div
-cast-floor-div c = let o = grade-out (c .before .before .before .before) .size in fits-by (search sizes depth 16) tt
+cast-floor-div c = let o = out-read (c .before .before .before .before .pre .1) .size in fits-by (search sizes depth 16) tt
 
 sub-floor-div : tie.Need-sub-floor-div
 sub-floor-div c =
-    let s = c .before .before .before .before in let g = grade-in s .size in let o = grade-out s .size in
+    let s = c .before .before .before .before in
+    let g = grade-read (s .pre .0) .size in let o = out-read (s .pre .1) .size in
     fits-by (search sizes depth 16) tt
 
 mul-floor-div : tie.Need-mul-floor-div
 mul-floor-div c =
-    let s = c .before .before .before .before in let g = grade-in s .size in let o = grade-out s .size in let d = metres s .size in
+    let s = c .before .before .before .before in
+    let g = grade-read (s .pre .0) .size in let o = out-read (s .pre .1) .size in let d = metres s .size in
     fits-by (search sizes depth 16) tt
 
 mul-floor-div-2 : tie.Need-mul-floor-div-2
 mul-floor-div-2 c =
-    let s = c .before .before .before .before in let g = grade-in s .size in let o = grade-out s .size in let d = metres s .size in
+    let s = c .before .before .before .before in
+    let g = grade-read (s .pre .0) .size in let o = out-read (s .pre .1) .size in let d = metres s .size in
     fits-by (search sizes depth 16) tt
 
 cast-floor-div-2 : tie.Need-cast-floor-div-2
@@ -76,7 +70,7 @@ module _ (f : tie.After-floor-div) where
   bend-is : f .floor-div .result ≡
       floorDiv ((start .args .c .«grade_out» -ℤ start .args .at .grade) *ℤ pos (start .args .d) *ℤ pos (start .args .d)) (pos (2 * start .args .c .length))
   bend-is =
-      let g = grade-in start in let o = grade-out start in let d = metres start in
+      let g = grade-read (start .pre .0) in let o = out-read (start .pre .1) in let d = metres start in
       let two : Reads (pos 2) (pos 2) = record { size = natB 2 (omega arith); good = true; same = λ _. refl } in
       let r : Reads (pos 2 *ℤ toZ w64 (start .args .c .length)) (pos (2 * start .args .c .length)) = mulR {y = pos (start .args .c .length)} two (run start) in
       f .floor-div .ensures ∙ same-by (search (reading, floorR) depth 20) tt
@@ -94,34 +88,38 @@ module _ (f : tie.After-floor-div) where
 
 cast-result : tie.Need-cast-result
 cast-result c =
-    let h = height (start (c .before .before)) .size in
+    let h = height-read (start (c .before .before) .pre .0) (omega arith) .size in
     fits-by (search sizes depth 16) tt
 
 mul-result : tie.Need-mul-result
 mul-result c =
-    let s = start (c .before .before) in let g = grade-in s .size in let d = metres s .size in
+    let s = start (c .before .before) in let g = grade-read (s .pre .0) .size in let d = metres s .size in
     fits-by (search sizes depth 16) tt
 
 add-result : tie.Need-add-result
 add-result c =
-    let s = start (c .before .before) in let h = height s .size in let g = grade-in s .size in let d = metres s .size in
+    let s = start (c .before .before) in
+    let h = height-read (s .pre .0) (omega arith) .size in let g = grade-read (s .pre .0) .size in let d = metres s .size in
     fits-by (search sizes depth 16) tt
 
 add-result-2 : tie.Need-add-result-2
 add-result-2 c =
-    let s = start (c .before .before) in let h = height s .size in let g = grade-in s .size in let d = metres s .size in
+    let s = start (c .before .before) in
+    let h = height-read (s .pre .0) (omega arith) .size in let g = grade-read (s .pre .0) .size in let d = metres s .size in
     let b = bend (c .before .before) .size in
     fits-by (search sizes depth 16) tt
 
 cast-result-2 : tie.Need-cast-result-2
 cast-result-2 c =
-    let s = start (c .before .before) in let h = height s .size in let g = grade-in s .size in let d = metres s .size in
+    let s = start (c .before .before) in
+    let h = height-read (s .pre .0) (omega arith) .size in let g = grade-read (s .pre .0) .size in let d = metres s .size in
     let b = bend (c .before .before) .size in
     fits-by (search sizes depth 16) tt
 
 returns : tie.Need-returns
 returns c =
-    let s = start (c .before .before) in let h = height s in let g = grade-in s in let d = metres s in
+    let s = start (c .before .before) in
+    let h = height-read (s .pre .0) (omega arith) in let g = grade-read (s .pre .0) in let d = metres s in
     let b = bend (c .before .before) in
     same-by (search reading depth 20) tt
     ∙ sym (curve-floor (s .args .at .height) (s .args .at .grade) (s .args .c .«grade_out») (s .args .c .length) (s .args .d) (omega arith))

@@ -2,45 +2,41 @@
 use borrow.Author.Needs.{needs}
 use native.Mathlib.Omega.{arith}
 use lib.IntN.{pos}
-use mir.Syntax.{w16, w32}
-use mir.Val.{toZ, ofZ}
+use mir.Syntax.{w32}
+use mir.Val.{toZ}
 use Rattle.whole.proofs.Range.{Reads, countR, fits-by, same-by, sizes}
 use Rattle.whole.proofs.Range.{reads as reading}
-use Rattle.terms.specs.Limits.{greatestGrade, greatestRoad}
-use Rattle.road.proofs.Along.{heightBound, knownR, near-height}
+use Rattle.terms.specs.Limits.{greatestRoad}
+use Rattle.road.proofs.Along.{grade-read, height-read}
 use Rattle.road.proofs.on_straight.Statement.{statement}
 use Rattle.road.proofs.on_straight.Tie as tie
 
 -- what is read
 module _ (s : tie.Start) where
-  abbrev grade : Reads (toZ w16 (ofZ w16 (s .args .at .grade))) (s .args .at .grade)
-  grade = knownR w16 (s .args .at .grade) greatestGrade (s .pre .0 .grade-size)
-
-  abbrev height : Reads (toZ w32 (ofZ w32 (s .args .at .height))) (s .args .at .height)
-  height = knownR w32 (s .args .at .height) heightBound (near-height (s .args .at) (s .pre .0) (omega arith))
-
   abbrev metres : Reads (toZ w32 (s .args .d)) (pos (s .args .d))
   metres = countR w32 (s .args .d) greatestRoad (omega arith)
 
 cast-result : tie.Need-cast-result
-cast-result c = let g = grade (c .before .before) .size in fits-by (search sizes depth 16) tt
+cast-result c = let g = grade-read (c .before .before .pre .0) .size in fits-by (search sizes depth 16) tt
 
 cast-result-2 : tie.Need-cast-result-2
 cast-result-2 c = search needs
 
 mul-result : tie.Need-mul-result
 mul-result c =
-    let s = c .before .before in let g = grade s .size in let d = metres s .size in
+    let s = c .before .before in let g = grade-read (s .pre .0) .size in let d = metres s .size in
     fits-by (search sizes depth 16) tt
 
 add-result : tie.Need-add-result
 add-result c =
-    let s = c .before .before .before .before in let g = grade s .size in let h = height s .size in let d = metres s .size in
+    let s = c .before .before .before .before in
+    let g = grade-read (s .pre .0) .size in let h = height-read (s .pre .0) (omega arith) .size in let d = metres s .size in
     fits-by (search sizes depth 16) tt
 
 returns : tie.Need-returns
 returns c =
-    let s = c .before .before .before .before in let g = grade s in let h = height s in let d = metres s in
+    let s = c .before .before .before .before in
+    let g = grade-read (s .pre .0) in let h = height-read (s .pre .0) (omega arith) in let d = metres s in
     same-by (search reading depth 20) tt
 
 pub on-straight-spec : {M : Type 1} → statement M

@@ -1,11 +1,10 @@
 -- `road::walk_along` meets its contract: the height is what `on_straight` answers, and the machine reads both numbers back.
 use mathlib.Core.Path.{refl, _∙_}
 use borrow.Author.Needs.{needs}
-use mir.Syntax.{w16, w32}
+use mir.Syntax.{w32}
 use Rattle.whole.proofs.Machine.{got}
 use Rattle.whole.proofs.Range.{same-by}
-use Rattle.terms.specs.Limits.{greatestGrade}
-use Rattle.road.proofs.Along.{knownR, walk-same}
+use Rattle.road.proofs.Along.{grade-read, walk-same}
 use Rattle.road.proofs.walk_along.Statement.{statement}
 use Rattle.road.proofs.walk_along.Tie as tie
 
@@ -19,7 +18,7 @@ returns : tie.Need-returns
 returns c =
     let s = c .before .before .before in let f = c .before .on-straight in
     walk-same refl (got w32 (f .result) (f .ok) ∙ f .ensures)
-    (same-by (knownR w16 (s .args .at .grade) greatestGrade (s .pre .0 .grade-size)) tt)
+    (same-by (grade-read (s .pre .0)) tt)
 
 pub walk-along-spec : {M : Type 1} → statement M
 walk-along-spec = tie.close (tie.spec sub-on-straight on-straight-requires returns)

@@ -2,27 +2,18 @@
 use borrow.Author.Needs.{needs}
 use native.Mathlib.Omega.{arith}
 use lib.IntN.{pos}
-use mir.Syntax.{w16, w32}
-use mir.Val.{toZ, ofZ}
+use mir.Syntax.{w32}
+use mir.Val.{toZ}
 use Rattle.whole.proofs.Range.{Reads, countR, fits-by, same-by, sizes}
 use Rattle.whole.proofs.Range.{reads as reading}
-use Rattle.terms.specs.Limits.{greatestGrade, greatestCurve}
+use Rattle.terms.specs.Limits.{greatestCurve}
 use Rattle.road.specs.Road.{half}
-use Rattle.road.proofs.Along.{heightBound, knownR, near-height, walk-same}
+use Rattle.road.proofs.Along.{grade-read, height-read, out-read, walk-same}
 use Rattle.road.proofs.walk_over.Statement.{statement}
 use Rattle.road.proofs.walk_over.Tie as tie
 
 -- what is read
 module _ (s : tie.Start) where
-  abbrev grade-in : Reads (toZ w16 (ofZ w16 (s .args .at .grade))) (s .args .at .grade)
-  grade-in = knownR w16 (s .args .at .grade) greatestGrade (s .pre .0 .grade-size)
-
-  abbrev grade-out : Reads (toZ w16 (ofZ w16 (s .args .c .«grade_out»))) (s .args .c .«grade_out»)
-  grade-out = knownR w16 (s .args .c .«grade_out») greatestGrade (s .pre .1 .grade-size)
-
-  abbrev height : Reads (toZ w32 (ofZ w32 (s .args .at .height))) (s .args .at .height)
-  height = knownR w32 (s .args .at .height) heightBound (near-height (s .args .at) (s .pre .0) (omega arith))
-
   abbrev metres : Reads (toZ w32 (half (s .args .c))) (pos (half (s .args .c)))
   metres = countR w32 (half (s .args .c)) greatestCurve (omega arith)
 
@@ -36,35 +27,37 @@ cast-t6 : tie.Need-cast-t6
 cast-t6 c = omega (arith, c .end-of .ensures)
 
 cast-t7 : tie.Need-cast-t7
-cast-t7 c = let g = grade-in (c .before .before .before .before) .size in fits-by (search sizes depth 16) tt
+cast-t7 c = let g = grade-read (c .before .before .before .before .pre .0) .size in fits-by (search sizes depth 16) tt
 
 cast-t8 : tie.Need-cast-t8
 cast-t8 c =
-    let o = grade-out (c .before .before .before .before .before .before) .size in
+    let o = out-read (c .before .before .before .before .before .before .pre .1) .size in
     fits-by (search sizes depth 16) tt
 
 add-t9 : tie.Need-add-t9
 add-t9 c =
     let s = c .before .before .before .before .before .before in
-    let g = grade-in s .size in let o = grade-out s .size in
+    let g = grade-read (s .pre .0) .size in let o = out-read (s .pre .1) .size in
     fits-by (search sizes depth 16) tt
 
 mul-t10 : tie.Need-mul-t10
 mul-t10 c =
     let s = c .before .before .before .before .before .before in
-    let g = grade-in s .size in let o = grade-out s .size in let d = metres s .size in
+    let g = grade-read (s .pre .0) .size in let o = out-read (s .pre .1) .size in let d = metres s .size in
     fits-by (search sizes depth 16) tt
 
 add-t11 : tie.Need-add-t11
 add-t11 c =
     let s = c .before .before .before .before .before .before .before .before in
-    let h = height s .size in let g = grade-in s .size in let o = grade-out s .size in let d = metres s .size in
+    let h = height-read (s .pre .0) (omega arith) .size in
+    let g = grade-read (s .pre .0) .size in let o = out-read (s .pre .1) .size in let d = metres s .size in
     fits-by (search sizes depth 16) tt
 
 returns : tie.Need-returns
 returns c =
     let s = c .before .before .before .before .before .before .before .before .before in
-    let h = height s in let g = grade-in s in let o = grade-out s in let d = metres s in
+    let h = height-read (s .pre .0) (omega arith) in
+    let g = grade-read (s .pre .0) in let o = out-read (s .pre .1) in let d = metres s in
     walk-same (c .before .before .before .before .before .before .before .end-of .ensures) (same-by (search reading depth 20) tt) (same-by o tt)
 
 pub walk-over-spec : {M : Type 1} → statement M
