@@ -9,9 +9,8 @@ use lib.ListN.{length, getD, length-append, List·getD-append}
 use lib.Seq.{getD-append-add, getD-take, length-take-le}
 use Rattle.road.specs.declared.Curve.{Curve}
 use Rattle.road.specs.declared.Road.{Road}
-use Rattle.road.specs.Road.{curvesOf}
-use Rattle.file.specs.File.{byteAt, noCurve, bytes2, bytes4, headerBytes, curveBytes, recordBytes, fileBytes}
-use Rattle.file.specs.Operations.{fileLength}
+use Rattle.road.specs.Road.{noCurve, curvesOf}
+use Rattle.file.specs.File.{byteAt, fileLength, bytes2, bytes4, headerBytes, curveBytes, recordBytes, fileBytes}
 
 -- ---- numbers and their bytes
 -- a number of 16 bits is its two bytes, one of 32 bits its four
@@ -83,10 +82,10 @@ records-curve (c ∷ cs) (suc i) j l h =
     rw e (getD-append-add (curveBytes c) (recordBytes cs) (6 * i + j) 0 ∙ records-curve cs i j (omega arith) h)
 
 pub file-curve : (r : Road) (i j : ℕ) → i < r .count → r .count ≤ length (r .curves) → j < 6 →
-    byteAt (fileBytes r) (16 + 6 * i + j) ≡ byteAt (curveBytes (getD (r .curves) i noCurve)) j
+    byteAt (fileBytes r) (fileLength i + j) ≡ byteAt (curveBytes (getD (r .curves) i noCurve)) j
 unfolding fileBytes
 file-curve r i j l m h =
-    let e : 16 + 6 * i + j ≡ length (headerBytes r) + (6 * i + j) = omega (arith, header-length r) in
+    let e : fileLength i + j ≡ length (headerBytes r) + (6 * i + j) = omega (arith, header-length r) in
     rw e (getD-append-add (headerBytes r) (recordBytes (curvesOf r)) (6 * i + j) 0
     ∙ records-curve (curvesOf r) i j (omega (arith, length-take-le (r .count) (r .curves) m)) h
     ∙ rw (getD-take (r .count) (r .curves) i noCurve l) refl)

@@ -7,7 +7,8 @@ use lib.ListN.{length, getD}
 use Rattle.whole.specs.Fill.{filled}
 use Rattle.whole.proofs.Fill.{filled-cong, filled-join}
 use Rattle.road.specs.declared.Road.{Road}
-use Rattle.file.specs.File.{byteAt, noCurve, headerBytes, curveBytes, fileBytes}
+use Rattle.road.specs.Road.{noCurve}
+use Rattle.file.specs.File.{byteAt, fileLength, headerBytes, curveBytes, fileBytes}
 use Rattle.file.proofs.Bytes.{header-length, curve-length, file-header, file-curve}
 
 -- the header, in the first 16 places
@@ -18,18 +19,18 @@ header-filled r bytes entry after b e =
     e ∙ rw (b, header-length r)
     (filled-cong _ _ 0 16 entry (λ k l h. ap (byteAt (headerBytes r)) (omega arith) ∙ sym (file-header r k (omega arith))))
 
--- record i, behind those before it
+-- record i, after those before it
 pub record-filled : (r : Road) (i : ℕ) (bytes entry before after : List ℕ) → i < r .count → r .count ≤ length (r .curves) →
     bytes ≡ curveBytes (getD (r .curves) i noCurve) →
     before ≡ filled (byteAt (fileBytes r)) 16 (6 * i) entry →
-    after ≡ filled (λ (k : ℕ). byteAt bytes (k - (16 + 6 * i))) (16 + 6 * i) (length bytes) before →
+    after ≡ filled (λ (k : ℕ). byteAt bytes (k - (fileLength i))) (fileLength i) (length bytes) before →
     after ≡ filled (byteAt (fileBytes r)) 16 (6 * (i + 1)) entry
 record-filled r i bytes entry before after l m b p e =
-    let at = 16 + 6 * i in
+    let at = fileLength i in
     let s : 6 * (i + 1) ≡ 6 * i + 6 = omega arith in
     e ∙ rw (b, curve-length (getD (r .curves) i noCurve), s)
     (filled-cong _ _ at 6 before (λ k low high. sym (file-curve r i (k - at) l m (omega arith)) ∙ ap (byteAt (fileBytes r)) (there k low))
     ∙ rw p (filled-join (byteAt (fileBytes r)) 16 (6 * i) 6 entry))
   where
-    there : (k : ℕ) → 16 + 6 * i ≤ k → 16 + 6 * i + (k - (16 + 6 * i)) ≡ k
+    there : (k : ℕ) → fileLength i ≤ k → fileLength i + (k - (fileLength i)) ≡ k
     there k h = omega arith

@@ -12,8 +12,8 @@ use mir.Val.{toZ, ofZ}
 use Rattle.whole.proofs.Fill.{filled-length, filled-at}
 use Rattle.whole.proofs.Twos.{bits-back}
 use Rattle.terms.specs.Limits.{greatestCurveCount}
-use Rattle.file.specs.File.{byteAt, u16At, u32At, noCurve, curveAt, roadIn, bytes2, bytes4, headerBytes, curveBytes, fileBytes}
-use Rattle.file.specs.Operations.{fileLength}
+use Rattle.road.specs.Road.{noCurve}
+use Rattle.file.specs.File.{byteAt, u16At, u32At, fileLength, curveCount, curveAt, roadIn, bytes2, bytes4, headerBytes, curveBytes, fileBytes}
 use Rattle.file.proofs.Bytes.{to-bytes2, to-bytes4, file-length, file-header, file-curve}
 use Rattle.file.proofs.Sound.{SoundFile}
 
@@ -55,10 +55,10 @@ module _ (s : List ℕ) (b : Bytes s) where
       let high : byteAt s 4 ≡ 0 = omega (arith, f .first-version, b 3) in
       cc (f .letter-V, f .letter-C, f .letter-P, u16-row 7, start-row, i16-row 13)
 
-  curve-row : (i : ℕ) → curveBytes (curveAt s i) ≡ row s (16 + 6 * i) 6
+  curve-row : (i : ℕ) → curveBytes (curveAt s i) ≡ row s (fileLength i) 6
   unfolding curveBytes curveAt row
   curve-row i =
-      let at = 16 + 6 * i in
+      let at = fileLength i in
       let two : at + 1 + 1 ≡ at + 2 = omega arith in
       let three : at + 1 + 1 + 1 ≡ at + 2 + 1 = omega arith in
       let four : at + 1 + 1 + 1 + 1 ≡ at + 4 = omega arith in
@@ -67,21 +67,21 @@ module _ (s : List ℕ) (b : Bytes s) where
 
 -- ---- the curves of a file: 32 places, of which the first n are in use
 module _ (s : List ℕ) (f : SoundFile s) where
-  pub count-in : roadIn s .count ≡ byteAt s 15
+  pub count-in : roadIn s .count ≡ curveCount s
   unfolding roadIn
   count-in = refl
 
   places-in : length (roadIn s .curves) ≡ greatestCurveCount
   unfolding roadIn
-  places-in = filled-length (curveAt s) 0 (byteAt s 15) _ ∙ length-replicate greatestCurveCount noCurve
+  places-in = filled-length (curveAt s) 0 (curveCount s) _ ∙ length-replicate greatestCurveCount noCurve
 
   pub used-in : roadIn s .count ≤ length (roadIn s .curves)
   used-in = omega (arith, places-in, count-in, f .count)
 
-  curve-in : (i : ℕ) → i < byteAt s 15 → getD (roadIn s .curves) i noCurve ≡ curveAt s i
+  curve-in : (i : ℕ) → i < curveCount s → getD (roadIn s .curves) i noCurve ≡ curveAt s i
   unfolding roadIn
   curve-in i h =
-      filled-at (curveAt s) 0 (byteAt s 15) (replicate greatestCurveCount noCurve) i noCurve (omega arith) (omega arith)
+      filled-at (curveAt s) 0 (curveCount s) (replicate greatestCurveCount noCurve) i noCurve (omega arith) (omega arith)
       (omega (arith, f .count, length-replicate greatestCurveCount noCurve))
 
 -- ---- byte by byte
@@ -91,10 +91,10 @@ module _ (s : List ℕ) (b : Bytes s) (f : SoundFile s) where
       let e : 0 + k ≡ k = omega arith in
       file-header (roadIn s) k h ∙ rw (header-row s b f) (row-at s 0 16 k h) ∙ ap (byteAt s) e
 
-  in-record : (i j : ℕ) → i < byteAt s 15 → j < 6 → byteAt (fileBytes (roadIn s)) (16 + 6 * i + j) ≡ byteAt s (16 + 6 * i + j)
+  in-record : (i j : ℕ) → i < curveCount s → j < 6 → byteAt (fileBytes (roadIn s)) (fileLength i + j) ≡ byteAt s (fileLength i + j)
   in-record i j l h =
       file-curve (roadIn s) i j (omega (arith, count-in s f)) (used-in s f) h
-      ∙ rw (curve-in s f i l, curve-row s b i) (row-at s (16 + 6 * i) 6 j h)
+      ∙ rw (curve-in s f i l, curve-row s b i) (row-at s (fileLength i) 6 j h)
 
   in-file : (k : ℕ) → k < length s → (c : Bool) → (T c → k < 16) → (T (not c) → 16 ≤ k) →
       byteAt (fileBytes (roadIn s)) k ≡ byteAt s k

@@ -15,8 +15,8 @@ use Rattle.terms.specs.declared.Verdict.the-variants.{Accepted}
 use Rattle.road.specs.declared.Road.{Road}
 use Rattle.road.specs.Road.{roadVerdict}
 use Rattle.road.proofs.Accepted.{accepted-road}
-use Rattle.file.specs.File.{byteAt, roadIn, headerBytes, fileBytes, SameRoad, cleared}
-use Rattle.file.specs.Operations.{fileLength, readVerdict, readRoad, writeAnswer, writeList}
+use Rattle.file.specs.File.{byteAt, fileLength, roadIn, headerBytes, fileBytes, SameRoad, cleared}
+use Rattle.file.specs.Operations.{readVerdict, readRoad, writeAnswer, writeList}
 use Rattle.file.proofs.Bytes.{file-length}
 use Rattle.file.proofs.Sound.{accepted-file, sound-file, read-accepted}
 use Rattle.file.proofs.ReadBack.{Bytes, count-in, used-in, read-back}

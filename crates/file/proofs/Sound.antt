@@ -6,7 +6,7 @@ use Prim.Native.Nat.{ℕ, _≤_}
 use native.Mathlib.Omega.{arith}
 use borrow.Author.Tests.{le-ltb, eq-eqb}
 use lib.Dec.{T, ltb, eqb, eqb→eq, nltb→le}
-use lib.ListN.{length}
+use lib.ListN.{length, getD}
 use Rattle.terms.specs.Limits.{greatestCurveCount}
 use Rattle.terms.specs.Refusals.{shortFileRefused, lettersRefused, versionRefused, curveCountRefused, totalRefused}
 use Rattle.terms.specs.declared.Verdict.the-variants.{Accepted, Fault}
@@ -14,16 +14,17 @@ use Rattle.terms.proofs.Laws.{ByteFault, fault-accepted, fault-byte, neither}
 use Rattle.road.specs.Road.{roadVerdict}
 use Rattle.road.proofs.Faults.{road-verdict-byte}
 use Rattle.file.specs.declared.ReadRoad.{ReadRoad}
-use Rattle.file.specs.File.{byteAt, u16At, version, roadIn, noRoad}
-use Rattle.file.specs.Operations.{fileLength, differs, readVerdict, readRoad}
+use Rattle.file.specs.File.{byteAt, u16At, fileLength, curveCount, letters, version, roadIn, noRoad}
+use Rattle.file.specs.Operations.{differs, readVerdict, readRoad}
 
+-- what an accepted file is
 pub record SoundFile (s : List ℕ) : Type 0 where
-  pub letter-V : byteAt s 0 ≡ 86
-  pub letter-C : byteAt s 1 ≡ 67
-  pub letter-P : byteAt s 2 ≡ 80
+  pub letter-V : byteAt s 0 ≡ getD letters 0 0
+  pub letter-C : byteAt s 1 ≡ getD letters 1 0
+  pub letter-P : byteAt s 2 ≡ getD letters 2 0
   pub first-version : u16At s 3 ≡ version
-  pub count : byteAt s 15 ≤ greatestCurveCount
-  pub total : length s ≡ fileLength (byteAt s 15)
+  pub count : curveCount s ≤ greatestCurveCount
+  pub total : length s ≡ fileLength (curveCount s)
   pub road : roadVerdict (roadIn s) ≡ Accepted
 
 same-if : (m n : ℕ) → T (not (not (eqb m n))) → m ≡ n
@@ -37,19 +38,19 @@ pub accepted-file : (s : List ℕ) → readVerdict s ≡ Accepted → SoundFile 
 unfolding readVerdict
 accepted-file s e =
     let short = fault-accepted (ltb (length s) (fileLength 0)) shortFileRefused _ e in
-    let letters = fault-accepted (not (eqb (byteAt s 0) 86) || not (eqb (byteAt s 1) 67) || not (eqb (byteAt s 2) 80)) lettersRefused _ (short .1) in
-    let versions = fault-accepted (not (eqb (u16At s 3) version)) versionRefused _ (letters .1) in
-    let count = fault-accepted (ltb greatestCurveCount (byteAt s 15)) curveCountRefused _ (versions .1) in
-    let total = fault-accepted (not (eqb (length s) (fileLength (byteAt s 15)))) totalRefused _ (count .1) in
-    let p = neither (not (eqb (byteAt s 0) 86) || not (eqb (byteAt s 1) 67)) (not (eqb (byteAt s 2) 80)) (letters .0) in
-    let v = neither (not (eqb (byteAt s 0) 86)) (not (eqb (byteAt s 1) 67)) (p .0) in
+    let spelled = fault-accepted (differs s 0 || differs s 1 || differs s 2) lettersRefused _ (short .1) in
+    let versions = fault-accepted (not (eqb (u16At s 3) version)) versionRefused _ (spelled .1) in
+    let count = fault-accepted (ltb greatestCurveCount (curveCount s)) curveCountRefused _ (versions .1) in
+    let total = fault-accepted (not (eqb (length s) (fileLength (curveCount s)))) totalRefused _ (count .1) in
+    let p = neither (differs s 0 || differs s 1) (differs s 2) (spelled .0) in
+    let v = neither (differs s 0) (differs s 1) (p .0) in
     record {
-      letter-V = same-if (byteAt s 0) 86 (v .0);
-      letter-C = same-if (byteAt s 1) 67 (v .1);
-      letter-P = same-if (byteAt s 2) 80 (p .1);
+      letter-V = same-if (byteAt s 0) (getD letters 0 0) (v .0);
+      letter-C = same-if (byteAt s 1) (getD letters 1 0) (v .1);
+      letter-P = same-if (byteAt s 2) (getD letters 2 0) (p .1);
       first-version = same-if (u16At s 3) version (versions .0);
-      count = nltb→le greatestCurveCount (byteAt s 15) (count .0);
-      total = same-if (length s) (fileLength (byteAt s 15)) (total .0);
+      count = nltb→le greatestCurveCount (curveCount s) (count .0);
+      total = same-if (length s) (fileLength (curveCount s)) (total .0);
       road = total .1;
     }
 
@@ -82,8 +83,8 @@ pub read-verdict-byte : (s : List ℕ) → ByteFault (readVerdict s)
 unfolding readVerdict
 read-verdict-byte s =
     fault-byte (ltb (length s) (fileLength 0)) _ _ (omega arith)
-    (fault-byte (differs s 0 86 || differs s 1 67 || differs s 2 80) _ _ (omega arith)
+    (fault-byte (differs s 0 || differs s 1 || differs s 2) _ _ (omega arith)
     (fault-byte (not (eqb (u16At s 3) version)) _ _ (omega arith)
-    (fault-byte (ltb greatestCurveCount (byteAt s 15)) _ _ (omega arith)
-    (fault-byte (not (eqb (length s) (fileLength (byteAt s 15)))) _ _ (omega arith)
+    (fault-byte (ltb greatestCurveCount (curveCount s)) _ _ (omega arith)
+    (fault-byte (not (eqb (length s) (fileLength (curveCount s)))) _ _ (omega arith)
     (road-verdict-byte (roadIn s))))))

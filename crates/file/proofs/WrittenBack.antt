@@ -1,7 +1,7 @@
 -- The road in the bytes of an accepted road is that road: each of its numbers fits its place, so its bytes give it back.
 use mathlib.Core.Path.{_≡_, refl, sym, ap, _∙_}
 use mathlib.Core.List.{List, [], _∷_}
-use Prim.Native.Nat.{ℕ, zero, suc, _+_, _*_, _/_, _%_, _≤_, _<_}
+use Prim.Native.Nat.{ℕ, zero, suc, _+_, _/_, _%_, _≤_, _<_}
 use native.Mathlib.Omega.{arith}
 use lib.IntN.{ℤ, pos, negsuc, negℤ}
 use lib.ListN.{length, getD, take, replicate, length-replicate}
@@ -18,9 +18,9 @@ use Rattle.terms.specs.Limits.{greatestCurveCount, greatestRoad, greatestGrade,
 use Rattle.terms.specs.declared.Verdict.the-variants.{Accepted}
 use Rattle.road.specs.declared.Curve.{Curve}
 use Rattle.road.specs.declared.Road.{Road}
-use Rattle.road.specs.Road.{end, curvesOf, curvesVerdict, roadVerdict}
+use Rattle.road.specs.Road.{end, noCurve, curvesOf, curvesVerdict, roadVerdict}
 use Rattle.road.proofs.Accepted.{accepted-curve, accepted-road}
-use Rattle.file.specs.File.{byteAt, u16At, noCurve, curveAt, roadIn, headerBytes, curveBytes, fileBytes, SameRoad, cleared}
+use Rattle.file.specs.File.{byteAt, u16At, fileLength, curveAt, roadIn, headerBytes, curveBytes, fileBytes, SameRoad, cleared}
 use Rattle.file.proofs.Bytes.{from-bytes2, from-bytes4, file-curve}
 
 -- ---- numbers
@@ -83,7 +83,7 @@ module _ (r : Road) (held : length (r .curves) ≡ greatestCurveCount) (accepted
   curve-back i h =
       let s = fileBytes r in
       let c = getD (r .curves) i noCurve in
-      let at = 16 + 6 * i in
+      let at = fileLength i in
       let f = used-fits i h in
       let byte : (j : ℕ) → j < 6 → byteAt s (at + j) ≡ byteAt (curveBytes c) j = λ j l. file-curve r i j h used l in
       let first : at + 0 ≡ at = omega arith in

@@ -11,9 +11,10 @@ use Rattle.whole.specs.Fill.{filled}
 use Rattle.terms.specs.Limits.{greatestCurveCount}
 use Rattle.road.specs.declared.Curve.{Curve}
 use Rattle.road.specs.declared.Road.{Road}
-use Rattle.road.specs.Road.{curvesOf}
+use Rattle.road.specs.Road.{noCurve, curvesOf}
 
 -- ---- numbers in a file
+-- the byte at place k; the number of 2 or 4 bytes from k on, unsigned, then signed
 abbrev pub byteAt : List ℕ → ℕ → ℕ
 byteAt s k = getD s k 0
 
@@ -30,12 +31,17 @@ abbrev pub i32At : List ℕ → ℕ → ℤ
 i32At s k = toZ w32 (u32At s k)
 
 -- ---- the road in a file
-abbrev pub noCurve : Curve
-noCurve = record { pvi = 0; length = 0; «grade_out» = pos 0 }
+-- the length of a file with n curves
+abbrev pub fileLength : ℕ → ℕ
+fileLength n = 16 + 6 * n
 
--- record k of 6 bytes behind the 16 of the header: PVI, length, grade out
+-- the number of curves that a file names
+abbrev pub curveCount : List ℕ → ℕ
+curveCount s = byteAt s 15
+
+-- record k of 6 bytes, after the 16 of the header and the records before it: PVI, length, grade out
 unfoldable pub curveAt : List ℕ → ℕ → Curve
-curveAt s k = let at = 16 + 6 * k in record { pvi = u16At s at; length = u16At s (at + 2); «grade_out» = i16At s (at + 4) }
+curveAt s k = let at = fileLength k in record { pvi = u16At s at; length = u16At s (at + 2); «grade_out» = i16At s (at + 4) }
 
 -- speed at byte 5, purpose at 6, N at 7, start height at 9, first grade at 13, the number of curves n at 15, then n records;
 -- the other curve places are zero
@@ -46,8 +52,8 @@ roadIn s = record {
   length = u16At s 7;
   «start_height» = i32At s 9;
   «first_grade» = i16At s 13;
-  count = byteAt s 15;
-  curves = filled (curveAt s) 0 (byteAt s 15) (replicate greatestCurveCount noCurve);
+  count = curveCount s;
+  curves = filled (curveAt s) 0 (curveCount s) (replicate greatestCurveCount noCurve);
 }
 
 -- the road of a refused file: all numbers zero
@@ -63,6 +69,7 @@ noRoad = record {
 }
 
 -- ---- the bytes of a road
+-- the 2 or 4 bytes of a number, lowest first
 abbrev pub bytes2 : ℕ → List ℕ
 bytes2 n = n % 256 ∷ n / 256 % 256 ∷ []
 
@@ -76,18 +83,22 @@ letters = 86 ∷ 67 ∷ 80 ∷ []
 abbrev pub version : ℕ
 version = 1
 
+-- bytes 0 to 15
 unfoldable pub headerBytes : Road → List ℕ
 headerBytes r =
     letters ++ bytes2 version ++ (r .speed ∷ r .purpose ∷ []) ++ bytes2 (r .length) ++ bytes4 (ofZ w32 (r .«start_height»))
     ++ bytes2 (ofZ w16 (r .«first_grade»)) ++ (r .count ∷ [])
 
+-- a record of 6 bytes
 unfoldable pub curveBytes : Curve → List ℕ
 curveBytes c = bytes2 (c .pvi) ++ bytes2 (c .length) ++ bytes2 (ofZ w16 (c .«grade_out»))
 
+-- all records
 unfoldable pub recordBytes : List Curve → List ℕ
 recordBytes [] = []
 recordBytes (c ∷ cs) = curveBytes c ++ recordBytes cs
 
+-- the whole file
 unfoldable pub fileBytes : Road → List ℕ
 fileBytes r = headerBytes r ++ recordBytes (curvesOf r)
 

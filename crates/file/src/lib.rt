@@ -6,8 +6,9 @@ ghost use mir.Syntax.{w16, w32};
 ghost use mir.Val.{toZ, ofZ};
 ghost use Rattle.whole.specs.Fill.{filled};
 ghost use Rattle.terms.specs.Limits.{greatestCurveCount};
-ghost use Rattle.file.specs.File.{byteAt, u16At, u32At, noCurve, noRoad, curveAt, roadIn, headerBytes, curveBytes, fileBytes};
-ghost use Rattle.file.specs.Operations.{fileLength, readRoad, writeAnswer, writeList};
+ghost use Rattle.road.specs.Road.{noCurve};
+ghost use Rattle.file.specs.File.{byteAt, u16At, u32At, fileLength, curveCount, noRoad, curveAt, roadIn, headerBytes, curveBytes, fileBytes};
+ghost use Rattle.file.specs.Operations.{readRoad, writeAnswer, writeList};
 use road::Curve;
 use road::Road;
 use terms::Answer;
@@ -38,7 +39,7 @@ const HEADER_BYTES: usize = 16;
 
 const CURVE_BYTES: usize = 6;
 
-const VERSION: u16 = 1;
+pub const VERSION: u16 = 1;
 
 // ---- numbers in a file
 fn wide(byte: u8) -> u16
@@ -61,7 +62,7 @@ fn u32_at(file: &[u8], at: usize) -> u32
     (u16_at(file, at) as u32) + 65536 * (u16_at(file, at + 2) as u32)
 }
 
-// The number whose bits these are. No cast wraps: in the upper half the bits turned over are a natural, and -1 less it is
+// The number whose bits these are. No cast wraps: in the upper half 65,535 − bits fits the lower half, and −1 minus that is
 // the number.
 fn signed16(bits: u16) -> i16
     ensures { λ r. ⌜ r ≡ toZ w16 bits ⌝ }
@@ -101,11 +102,11 @@ const NO_CURVE: Curve = Curve {
 };
 
 // Records 0 to n - 1, and zero in the other curve places.
-fn curves_in(file: &[u8], n: usize) -> [Curve; 32]
+fn curves_in(file: &[u8], n: usize) -> [Curve; terms::CURVE_PLACES]
     requires { ⌜ (n ≤ greatestCurveCount) × (fileLength n ≤ length (now file)) ⌝ }
     ensures { λ r. ⌜ r ≡ filled (curveAt (now (file .entry))) 0 n (replicate greatestCurveCount noCurve) ⌝ }
 {
-    let mut curves = [NO_CURVE; 32];
+    let mut curves = [NO_CURVE; terms::CURVE_PLACES];
     for k in 0..n {
         curves[k] = curve_at(file, k);
     }
@@ -114,7 +115,7 @@ fn curves_in(file: &[u8], n: usize) -> [Curve; 32]
 
 // The road in a file whose length is that of its number of curves.
 fn road_in(file: &[u8]) -> Road
-    requires { ⌜ (byteAt (now file) 15 ≤ greatestCurveCount) × (length (now file) ≡ fileLength (byteAt (now file) 15)) ⌝ }
+    requires { ⌜ (curveCount (now file) ≤ greatestCurveCount) × (length (now file) ≡ fileLength (curveCount (now file))) ⌝ }
     ensures { λ r. ⌜ r ≡ roadIn (now (file .entry)) ⌝ }
 {
     let curves = curves_in(file, file[COUNT_AT] as usize);
@@ -136,7 +137,7 @@ const NO_ROAD: Road = Road {
     start_height: 0,
     first_grade: 0,
     count: 0,
-    curves: [NO_CURVE; 32],
+    curves: [NO_CURVE; terms::CURVE_PLACES],
 };
 
 // What reading answers to a file that is refused.
@@ -178,7 +179,7 @@ pub fn read(file: &[u8]) -> ReadRoad
 }
 
 // ---- the bytes of a road
-// The bits of a number, the other way round.
+// The two's complement bits of a number: `signed16` gives it back.
 fn bits16(number: i16) -> u16
     ensures { λ r. ⌜ r ≡ ofZ w16 number ⌝ }
 {
@@ -278,7 +279,7 @@ fn put_file(buffer: &mut [u8], road: Road)
 // is, then by 14; the buffer is then as it was.
 pub fn write(road: Road, buffer: &mut [u8]) -> Answer
     ensures answer { λ r. ⌜ r ≡ writeAnswer road (now (buffer .entry)) ⌝ }
-    ensures bytes { λ _. ⌜ now (buffer .exit) ≡ writeList road (now (buffer .entry)) ⌝ }
+    ensures list { λ _. ⌜ now (buffer .exit) ≡ writeList road (now (buffer .entry)) ⌝ }
 {
     let verdict = road::verdict(road);
     match verdict {

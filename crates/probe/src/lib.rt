@@ -10,7 +10,7 @@ use terms::Verdict;
 #[no_mangle]
 pub extern "C" fn probe_rewrite(file: &[u8], out: &mut [u8]) -> i64
     ensures answer { λ r. ⌜ r ≡ signed (rewriteAnswer (now (file .entry)) (now (out .entry))) ⌝ }
-    ensures bytes { λ _. ⌜ now (out .exit) ≡ rewriteList (now (file .entry)) (now (out .entry)) ⌝ }
+    ensures list { λ _. ⌜ now (out .exit) ≡ rewriteList (now (file .entry)) (now (out .entry)) ⌝ }
 {
     let read = file::read(file);
     let verdict = read.verdict;

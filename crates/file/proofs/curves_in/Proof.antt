@@ -7,7 +7,8 @@ use lib.ListN.{replicate}
 use Rattle.whole.specs.Fill.{filled}
 use Rattle.whole.proofs.Fill.{filled-next}
 use Rattle.terms.specs.Limits.{greatestCurveCount}
-use Rattle.file.specs.File.{curveAt, noCurve}
+use Rattle.road.specs.Road.{noCurve}
+use Rattle.file.specs.File.{curveAt}
 use Rattle.file.proofs.curves_in.Statement.{statement}
 use Rattle.file.proofs.curves_in.Tie as tie
 

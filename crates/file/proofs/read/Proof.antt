@@ -11,17 +11,17 @@ use Rattle.terms.specs.Limits.{greatestCurveCount}
 use Rattle.terms.specs.Refusals.{shortFileRefused, lettersRefused, versionRefused, curveCountRefused, totalRefused}
 use Rattle.terms.specs.declared.Verdict.the-variants.{Fault}
 use Rattle.road.specs.Road.{roadVerdict}
-use Rattle.file.specs.Operations.{fileLength, readVerdict}
-use Rattle.file.specs.File.{byteAt, roadIn}
+use Rattle.file.specs.Operations.{readVerdict}
+use Rattle.file.specs.File.{fileLength, curveCount, roadIn}
 use Rattle.file.proofs.Sound.{read-fault, read-accepted}
 use Rattle.file.proofs.read.Statement.{statement}
 use Rattle.file.proofs.read.Tie as tie
 
--- the verdict behind the test of the version, behind that of the total length, and behind the road's own
+-- the verdict past the test of the version, past that of the total length, and past the road's own
 past-version : (c : tie.Else3) →
     let s = now (c .before .before .before .before .before .before .before .before .args .file) in
-    readVerdict s ≡ fault (ltb greatestCurveCount (byteAt s 15)) curveCountRefused
-    (fault (not (eqb (length s) (fileLength (byteAt s 15)))) totalRefused
+    readVerdict s ≡ fault (ltb greatestCurveCount (curveCount s)) curveCountRefused
+    (fault (not (eqb (length s) (fileLength (curveCount s)))) totalRefused
     (roadVerdict (roadIn s)))
 unfolding readVerdict
 past-version c =
