@@ -41,6 +41,14 @@ const CURVE_BYTES: usize = 6;
 
 pub const VERSION: u16 = 1;
 
+// The length of a file with this many curves; the next record would begin there.
+fn file_length(count: usize) -> usize
+    requires { ⌜ count ≤ greatestCurveCount ⌝ }
+    ensures { λ r. ⌜ r ≡ fileLength count ⌝ }
+{
+    HEADER_BYTES + CURVE_BYTES * count
+}
+
 // ---- numbers in a file
 fn wide(byte: u8) -> u16
     ensures { λ r. ⌜ (r ≡ byte) × (r < 256) ⌝ }
@@ -84,10 +92,10 @@ fn signed32(bits: u32) -> i32
 
 // Record k: PVI, length, grade out.
 fn curve_at(file: &[u8], k: usize) -> Curve
-    requires { ⌜ fileLength (k + 1) ≤ length (now file) ⌝ }
+    requires { ⌜ (k < greatestCurveCount) × (fileLength (k + 1) ≤ length (now file)) ⌝ }
     ensures { λ r. ⌜ r ≡ curveAt (now (file .entry)) k ⌝ }
 {
-    let at = HEADER_BYTES + CURVE_BYTES * k;
+    let at = file_length(k);
     Curve {
         pvi: u16_at(file, at) as u32,
         length: u16_at(file, at + 2),
@@ -167,7 +175,7 @@ pub fn read(file: &[u8]) -> ReadRoad
     if terms::GREATEST_CURVE_COUNT < count {
         return refused(terms::CURVE_COUNT_REFUSED);
     }
-    if file.len() != HEADER_BYTES + CURVE_BYTES * (count as usize) {
+    if file.len() != file_length(count as usize) {
         return refused(terms::TOTAL_REFUSED);
     }
     let road = road_in(file);
@@ -271,7 +279,7 @@ fn put_file(buffer: &mut [u8], road: Road)
     for k in 0..road.count as usize {
         let curve = road.curves[k];
         let bytes = curve_bytes(curve);
-        put(buffer, HEADER_BYTES + CURVE_BYTES * k, &bytes);
+        put(buffer, file_length(k), &bytes);
     }
 }
 
@@ -285,7 +293,7 @@ pub fn write(road: Road, buffer: &mut [u8]) -> Answer
     match verdict {
         Verdict::Fault(number) => Answer::Refused(number),
         Verdict::Accepted => {
-            let total = HEADER_BYTES + CURVE_BYTES * (road.count as usize);
+            let total = file_length(road.count as usize);
             if buffer.len() < total {
                 return Answer::Refused(terms::ROOM_REFUSED);
             }

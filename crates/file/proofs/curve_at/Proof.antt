@@ -6,17 +6,14 @@ use Rattle.file.specs.File.{curveAt}
 use Rattle.file.proofs.curve_at.Statement.{statement}
 use Rattle.file.proofs.curve_at.Tie as tie
 
-mul-at : tie.Need-mul-at
-mul-at c = search needs
-
-add-at : tie.Need-add-at
-add-at c = search needs
+file-length-requires : tie.Need-file-length-requires
+file-length-requires c κs = search needs
 
 u16-at-requires : tie.Need-u16-at-requires
 u16-at-requires c κs = search needs
 
-cast-t6 : tie.Need-cast-t6
-cast-t6 c = search needs
+cast-t5 : tie.Need-cast-t5
+cast-t5 c = search needs
 
 add-u16-at : tie.Need-add-u16-at
 add-u16-at c = search needs
@@ -41,10 +38,9 @@ pub curve-at-spec : {M : Type 1} → statement M
 curve-at-spec =
     tie.close
     (tie.spec
-    mul-at
-    add-at
+    file-length-requires
     u16-at-requires
-    cast-t6
+    cast-t5
     add-u16-at
     u16-at-requires-2
     add-u16-at-2

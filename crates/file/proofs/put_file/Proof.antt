@@ -51,18 +51,15 @@ element-copy-out-curve c = search needs
 curve-bytes-requires : tie.Need-curve-bytes-requires Inv-loop μ-loop
 curve-bytes-requires c κs = search needs
 
-mul-put : tie.Need-mul-put Inv-loop μ-loop
-mul-put c = search needs
-
-add-put : tie.Need-add-put Inv-loop μ-loop
-add-put c = search needs
+file-length-requires : tie.Need-file-length-requires Inv-loop μ-loop
+file-length-requires c κs = search needs
 
 slice-aggregate-put-2 : tie.Need-slice-aggregate-put-2 Inv-loop μ-loop
 slice-aggregate-put-2 c = search needs
 
 put-requires-2 : tie.Need-put-requires-2 Inv-loop μ-loop
 put-requires-2 c κs =
-    omega (arith, same-room (c .before .before .before .before .before), ap length (c .before .before .curve-bytes .ensures) ∙ curve-length _)
+    omega (arith, same-room (c .before .before .before .before .before .before), c .before .file-length .ensures, ap length (c .before .before .before .curve-bytes .ensures) ∙ curve-length _)
 
 add-k : tie.Need-add-k Inv-loop μ-loop
 add-k c = search needs
@@ -72,12 +69,13 @@ loop-less c = search needs
 
 loop-again : tie.Need-loop-again Inv-loop μ-loop
 loop-again c =
-    let top = c .before .before .before .before .before .before .before .before in
+    let top = c .before .before .before .before .before .before .before .before .before in
     let start = top .before .before .before .before .before .before .before .before in
     let l = curve-places (start .args .t2) _ (start .good .1 .0) in
-    let bytes = c .before .before .before .before .before .curve-bytes .ensures in (
+    let bytes = c .before .before .before .before .before .before .curve-bytes .ensures in
+    let stored = rw (c .before .before .before .before .file-length .ensures) at (c .before .before .put2 .ensures) in (
       omega arith,
-      record-filled (start .args .t2) (top .loop .k) _ _ _ _ (omega arith) (omega arith) bytes (top .loop .inv .1) (c .before .before .put2 .ensures),
+      record-filled (start .args .t2) (top .loop .k) _ _ _ _ (omega arith) (omega arith) bytes (top .loop .inv .1) stored,
     )
 
 same-length : tie.Need-same-length Inv-loop μ-loop
@@ -107,8 +105,7 @@ put-file-spec =
     mul-curve
     element-copy-out-curve
     curve-bytes-requires
-    mul-put
-    add-put
+    file-length-requires
     slice-aggregate-put-2
     put-requires-2
     add-k

@@ -30,12 +30,14 @@ past-version c =
     simp (le-ltb _ _ (letters .before .before .before .before .if1 .left), letters .if2 .left, eq-eqb _ _ version)
 
 past-total : (c : tie.Else5) →
-    let s = now (c .before .before .before .before .before .before .before .before .before .before .before .args .file) in
+    let s = now (c .before .before .before .before .before .before .before .before .before .before .before .before .args .file) in
     readVerdict s ≡ roadVerdict (roadIn s)
-past-total c = past-version (c .before .before .before) ∙ simp (le-ltb _ _ (c .before .if4 .left), eq-eqb _ _ (c .if5 .left))
+past-total c =
+    let total = c .if5 .left ∙ c .before .file-length .ensures in
+    past-version (c .before .before .before .before) ∙ simp (le-ltb _ _ (c .before .before .if4 .left), eq-eqb _ _ total)
 
 past-road : (c : tie.After-verdict) →
-    let s = now (c .before .before .before .before .before .before .before .before .before .before .before .before .before .args .file) in
+    let s = now (c .before .before .before .before .before .before .before .before .before .before .before .before .before .before .args .file) in
     readVerdict s ≡ c .verdict .result
 past-road c = past-total (c .before .before) ∙ sym (c .verdict .ensures ∙ ap roadVerdict (c .before .road-in .ensures))
 
@@ -94,23 +96,20 @@ returns-4 c =
     c .refused4 .ensures
     ∙ sym (read-fault s curveCountRefused (past-version (c .before .before .before) ∙ simp (lt-ltb _ _ (c .before .if4 .taken))))
 
-cast-if5 : tie.Need-cast-if5
-cast-if5 c = search needs
+cast-file-length : tie.Need-cast-file-length
+cast-file-length c = search needs
 
-mul-if5 : tie.Need-mul-if5
-mul-if5 c = search needs
-
-add-if5 : tie.Need-add-if5
-add-if5 c = search needs
+file-length-requires : tie.Need-file-length-requires
+file-length-requires c κs = search needs
 
 refused-requires-5 : tie.Need-refused-requires-5
 refused-requires-5 c κs = search needs
 
 returns-5 : tie.Need-returns-5
 returns-5 c =
-    let s = now (c .before .before .before .before .before .before .before .before .before .before .before .before .args .file) in
+    let s = now (c .before .before .before .before .before .before .before .before .before .before .before .before .before .args .file) in
     let total : readVerdict s ≡ Fault totalRefused =
-    past-version (c .before .before .before .before) ∙ simp (le-ltb _ _ (c .before .before .if4 .left), ne-eqb _ _ (c .before .if5 .taken)) in
+    past-version (c .before .before .before .before .before) ∙ simp (le-ltb _ _ (c .before .before .before .if4 .left), ne-eqb _ _ (rw (c .before .before .file-length .ensures) at (c .before .if5 .taken))) in
     c .refused5 .ensures ∙ sym (read-fault s totalRefused total)
 
 road-in-requires : tie.Need-road-in-requires
@@ -130,12 +129,12 @@ enum-told c = search needs
 
 returns-6 : tie.Need-returns-6
 returns-6 c =
-    let s = now (c .before .before .before .before .before .before .before .before .before .before .before .before .before .before .before .before .before .args .file) in
+    let s = now (c .before .before .before .before .before .before .before .before .before .before .before .before .before .before .before .before .before .before .args .file) in
     c .refused6 .ensures ∙ sym (read-fault s _ (past-road (c .before .before .before .before) ∙ c .before .before .verdict2 .given .1))
 
 returns-7 : tie.Need-returns-7
 returns-7 c =
-    let s = now (c .before .before .before .before .before .before .before .before .before .before .before .before .before .before .before .args .file) in
+    let s = now (c .before .before .before .before .before .before .before .before .before .before .before .before .before .before .before .before .args .file) in
     let told = c .enum-told .given .1 in
     cc (told, c .before .before .before .road-in .ensures, read-accepted s (past-road (c .before .before) ∙ told))
 
@@ -156,9 +155,8 @@ read-spec =
     shared-slice-read-count
     refused-requires-4
     returns-4
-    cast-if5
-    mul-if5
-    add-if5
+    cast-file-length
+    file-length-requires
     refused-requires-5
     returns-5
     road-in-requires

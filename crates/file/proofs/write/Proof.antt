@@ -24,24 +24,23 @@ enum-known-verdict c = search needs
 enum-told : tie.Need-enum-told
 enum-told c = search needs
 
-cast-total : tie.Need-cast-total
-cast-total c = search needs
+cast-file-length : tie.Need-cast-file-length
+cast-file-length c = search needs
 
-mul-total : tie.Need-mul-total
-mul-total c = search needs
-
-add-total : tie.Need-add-total
-add-total c = search needs
+file-length-requires : tie.Need-file-length-requires
+file-length-requires c κs = accepted-road _ (accepted (c .before)) .count
 
 returns : tie.Need-returns
 unfolding writeAnswer writeList
-returns c = simp (accepted (c .before .before), lt-ltb _ _ (c .if1 .taken)) (refl, refl)
+returns c =
+    let short = rw (c .before .file-length .ensures) at (c .if1 .taken) in
+    simp (accepted (c .before .before .before), lt-ltb _ _ short) (refl, refl)
 
 put-file-requires : tie.Need-put-file-requires
-put-file-requires c κs = (accepted-road _ (accepted (c .before .before .before)) .count, omega arith)
+put-file-requires c κs = (accepted-road _ (accepted (c .before .before .before .before)) .count, omega (arith, c .before .before .file-length .ensures))
 
-cast-t13 : tie.Need-cast-t13
-cast-t13 c = search needs
+cast-t12 : tie.Need-cast-t12
+cast-t12 c = search needs
 
 returns-2 : tie.Need-returns-2
 unfolding writeAnswer writeList
@@ -56,7 +55,8 @@ returns-3 : tie.Need-returns-3
 unfolding writeAnswer writeList
 returns-3 c =
     let passed = c .before .before .before .before in
-    simp (accepted (passed .before .before), le-ltb _ _ (passed .if1 .left)) (refl, c .before .before .put-file .ensures)
+    let room = rw (passed .before .file-length .ensures) at (passed .if1 .left) in
+    simp (accepted (passed .before .before .before), le-ltb _ _ room, passed .before .file-length .ensures) (refl, c .before .before .put-file .ensures)
 
 pub write-spec : {M : Type 1} → statement M
 write-spec =
@@ -65,12 +65,11 @@ write-spec =
     verdict-requires
     enum-known-verdict
     enum-told
-    cast-total
-    mul-total
-    add-total
+    cast-file-length
+    file-length-requires
     returns
     put-file-requires
-    cast-t13
+    cast-t12
     returns-2
     same-length
     returns-3)
