@@ -66,7 +66,7 @@ right-over : (m n e o a b s t k : ℤ) → ((m +ℤ e *ℤ s) *ℤ a *ℤ t +ℤ
     ≡ (m *ℤ (t *ℤ k) +ℤ e *ℤ (s *ℤ (t *ℤ k))) *ℤ a +ℤ (n *ℤ (s *ℤ k) +ℤ o *ℤ (s *ℤ (t *ℤ k))) *ℤ b
 right-over m n e o a b s t k = simp ring
 
--- the exact heights p below the eye, q below the object and r between, a metres before the object and b behind the eye,
+-- the exact heights p below the eye, q below the object and r between, a metres before the object and b after the eye,
 -- and the stored heights u, v and w
 module _ {p q r : Frac} {u v w : ℤ} (fp : Floor p u) (fq : Floor q v) (fr : Floor r w) (a b e o : ℕ) where
   abbrev d : ℕ

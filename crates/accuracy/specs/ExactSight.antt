@@ -2,7 +2,7 @@
 -- same definition, with the exact heights of all stations 0 to N, as fractions, in place of the stored ones.
 use Prim.Native.Nat.{ℕ, _+_, _*_, _-_}
 use mathlib.Core.Bool.{Bool}
-use lib.IntN.{ℤ, pos, _+ℤ_, _*ℤ_}
+use lib.IntN.{pos, _+ℤ_, _*ℤ_}
 use lib.Signed.{leZ}
 use Rattle.whole.specs.Floor.{Frac}
 use Rattle.road.specs.declared.Road.{Road}
@@ -14,14 +14,17 @@ use Rattle.sight.specs.Sight.{every, reach, least}
 abbrev pub raised : Frac → ℕ → Frac
 raised q n = record { num = q .num +ℤ pos (n * q .den); den = q .den }
 
+-- the sum
 infixl 6 _+F_
 abbrev pub _+F_ : Frac → Frac → Frac
 p +F q = record { num = p .num *ℤ pos (q .den) +ℤ q .num *ℤ pos (p .den); den = p .den * q .den }
 
+-- n times q
 infixl 7 _*F_
 abbrev pub _*F_ : Frac → ℕ → Frac
 q *F n = record { num = q .num *ℤ pos n; den = q .den }
 
+-- p ≤ q, by products since denominators are positive
 abbrev pub leF : Frac → Frac → Bool
 leF p q = leZ (p .num *ℤ pos (q .den)) (q .num *ℤ pos (p .den))
 
