@@ -31,7 +31,7 @@ abbrev pub i32At : List ℕ → ℕ → ℤ
 i32At s k = toZ w32 (u32At s k)
 
 -- ---- the road in a file
--- the length of a file with n curves
+-- the length of a file with n curves: 16 bytes of the header and 6 for each record
 abbrev pub fileLength : ℕ → ℕ
 fileLength n = 16 + 6 * n
 
@@ -39,7 +39,7 @@ fileLength n = 16 + 6 * n
 abbrev pub curveCount : List ℕ → ℕ
 curveCount s = byteAt s 15
 
--- record k of 6 bytes, after the 16 of the header and the records before it: PVI, length, grade out
+-- record k, which begins where a file with k curves ends: PVI, length, grade out
 unfoldable pub curveAt : List ℕ → ℕ → Curve
 curveAt s k = let at = fileLength k in record { pvi = u16At s at; length = u16At s (at + 2); «grade_out» = i16At s (at + 4) }
 

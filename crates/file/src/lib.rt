@@ -39,9 +39,10 @@ const HEADER_BYTES: usize = 16;
 
 const CURVE_BYTES: usize = 6;
 
+// The version that is read and written.
 pub const VERSION: u16 = 1;
 
-// The length of a file with this many curves; the next record would begin there.
+// The length of a file with this many curves, and so where record `count` begins.
 fn file_length(count: usize) -> usize
     requires { ⌜ count ≤ greatestCurveCount ⌝ }
     ensures { λ r. ⌜ r ≡ fileLength count ⌝ }
