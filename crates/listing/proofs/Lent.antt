@@ -18,7 +18,7 @@ use Rattle.marks.specs.Marks.{markFor}
 use Rattle.marks.specs.RoadFile.{ownHeights, markFileAnswer, markFileList}
 use Rattle.zones.specs.Zones.{zoneEnds, zoneCount, zonesAnswer, zonesList}
 use Rattle.zones.proofs.Laws.{zones-at-most}
-use Rattle.listing.specs.Listing.{zoneLines, letters, bitLines, ownMarks}
+use Rattle.listing.specs.Listing.{zoneLines, bitLetters, bitLines, ownMarks}
 use Rattle.listing.proofs.Writing.{joined-cong}
 
 -- a number is no refusal
@@ -45,7 +45,7 @@ module _ (marks list : List ℕ) (b : ℕ) (bit : b ≤ lastBit) (some : 0 < len
 
   -- the lines of the bit, by the list that `zones` left
   pub zones-lines : (count : ℕ) (ends : List ℕ) → Number count ≡ zonesAnswer marks b list → ends ≡ zonesList marks b list →
-      (zoneLines (getD letters b 0) ends count ≡ bitLines marks b) × (2 * count ≤ length ends)
+      (zoneLines (getD bitLetters b 0) ends count ≡ bitLines marks b) × (2 * count ≤ length ends)
   unfolding bitLines zonesList
   zones-lines count ends e p =
       let n = length marks in

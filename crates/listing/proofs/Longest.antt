@@ -1,6 +1,6 @@
--- No listing is longer than the buffer that is asked for: a number has at most 5 digits, and of a bit's zones there are at most
--- half as many as stations.
-use Prim.Native.Nat.{ℕ, _+_, _*_, _≤_, _<_}
+-- No listing is longer than the array that it is written into: a number has at most 5 digits, and of a bit's zones there are
+-- at most half as many as stations.
+use Prim.Native.Nat.{ℕ, _+_, _*_, _/_, _≤_, _<_}
 use mathlib.Core.Path.{_≡_, refl, sym, _∙_}
 use mathlib.Core.Bool.{Bool, true, false, cond}
 use mathlib.Core.List.{List, [], _∷_}
@@ -25,7 +25,7 @@ use Rattle.marks.specs.Marks.{markFor}
 use Rattle.marks.specs.RoadFile.{ownHeights, markFileAnswer, markFileList}
 use Rattle.zones.specs.Zones.{zoneEnds, zoneCount}
 use Rattle.zones.proofs.Laws.{zones-at-most}
-use Rattle.listing.specs.Listing.{digit, decimal, space, lineFeed, item, refusedLine, firstLine, zoneLine, letters, bitLines, zonesText, ownMarks, linesFor, textFor, listing, listAnswer}
+use Rattle.listing.specs.Listing.{digit, decimal, space, lineFeed, item, refusedLine, firstLine, zoneLine, bitLetters, bitLines, zonesText, ownMarks, linesFor, textFor, listing, listAnswer}
 use Rattle.listing.proofs.Lent.{number-not-refused}
 use Rattle.listing.proofs.Writing.{joined-at-most}
 
@@ -88,17 +88,21 @@ unfolding zoneLine
 zone-at-most letter first last = simp length-append (omega (arith, item-at-most first space, item-at-most last lineFeed))
 
 -- ---- zones of 8,001 stations
+-- the lines of a bit: at most one zone for two stations, with a line of at most 14 bytes
+abbrev bitBytes : ℕ
+bitBytes = 14 * ((greatestList + 1) / 2)
+
 module _ (marks : List ℕ) (h : length marks ≤ greatestList) where
-  bit-at-most : (b : ℕ) → length (bitLines marks b) ≤ 14 * 4001
+  bit-at-most : (b : ℕ) → length (bitLines marks b) ≤ bitBytes
   unfolding bitLines
   bit-at-most b =
       let n = length marks in
       let ends = zoneEnds marks b n in
-      let line : ℕ → List ℕ = λ k. zoneLine (getD letters b 0) (getD ends (2 * k) 0) (getD ends (2 * k + 1) 0) in
+      let line : ℕ → List ℕ = λ k. zoneLine (getD bitLetters b 0) (getD ends (2 * k) 0) (getD ends (2 * k + 1) 0) in
       omega (arith, joined-at-most line 14 (zoneCount marks b n) (λ k. zone-at-most _ _ _), zones-at-most marks b n)
 
-  zones-text-at-most : length (zonesText marks) ≤ 14 * 4001 * (lastBit + 1)
-  zones-text-at-most = joined-at-most (bitLines marks) (14 * 4001) (lastBit + 1) bit-at-most
+  zones-text-at-most : length (zonesText marks) ≤ bitBytes * (lastBit + 1)
+  zones-text-at-most = joined-at-most (bitLines marks) bitBytes (lastBit + 1) bit-at-most
 
 -- ---- the text of a road
 written-length : (f : ℕ → ℕ) (a : Answer) (xs : List ℕ) → length (written f a xs) ≡ length xs
@@ -134,10 +138,10 @@ listing-at-most file = go (readVerdict file) refl
 -- what is answered is within the buffer
 pub list-answer-fits : (file buffer : List ℕ) (n : ℕ) → Number n ≡ listAnswer file buffer → n ≤ length buffer
 unfolding listAnswer
-list-answer-fits file buffer n e = go (ltb (length buffer) greatestListing) refl
+list-answer-fits file buffer n e = go (ltb (length buffer) (length (listing file))) refl
   where
-    go : (t : Bool) → ltb (length buffer) greatestListing ≡ t → n ≤ length buffer
+    go : (t : Bool) → ltb (length buffer) (length (listing file)) ≡ t → n ≤ length buffer
     go true p = absurd (number-not-refused _ n roomRefused (sym e) (rw p refl))
     go false p =
         let same : n ≡ length (listing file) = cc (rw p at e) in
-        omega (arith, ltb-false (length buffer) greatestListing p, listing-at-most file)
+        omega (arith, ltb-false (length buffer) (length (listing file)) p)

@@ -8,9 +8,9 @@ use native.Mathlib.Nat.{eq-or-lt-of-le}
 use native.Mathlib.Numerals.{add-one}
 use native.Mathlib.Omega.{arith}
 use lib.ListN.{length, getD, set, take, length-append, length-set}
-use lib.Seq.{take-suc, take-length}
+use lib.Seq.{take-suc, take-length, length-take-le, ext-getD}
 use Rattle.whole.specs.Fill.{filled}
-use Rattle.whole.proofs.Fill.{filled-cong, filled-join}
+use Rattle.whole.proofs.Fill.{filled-length, filled-at, filled-take, filled-cong, filled-join}
 use Rattle.listing.specs.Listing.{joined}
 use Rattle.listing.specs.Writing.{placed, Room, Wrote}
 
@@ -66,6 +66,17 @@ wrote-filled {bytes} {xs} p =
     p .text ∙ placed-filled bytes 0 xs
     ∙ filled-cong (λ k. getD bytes (k - 0) 0) (λ k. getD bytes k 0) 0 (length bytes) xs
     (λ k l r. let e : k - 0 ≡ k = omega arith in rw e refl)
+
+-- the front of what was written is the text
+pub wrote-front : {bytes : List ℕ} {n : ℕ} {xs ys : List ℕ} → Room bytes 0 xs → Wrote bytes 0 n xs ys → take n ys ≡ bytes
+wrote-front {bytes} {n} {xs} {ys} r p =
+    let f : ℕ → ℕ = λ k. getD bytes k 0 in
+    let all : n ≡ length bytes = omega (arith, p .behind) in
+    let front = length-take-le n xs (omega (arith, r .fits)) in
+    let same : take n ys ≡ filled f 0 n (take n xs) = rw (wrote-filled p, ← all) (filled-take f 0 n n xs (omega arith)) in
+    let long = filled-length f 0 n (take n xs) in
+    same ∙ ext-getD 0 (filled f 0 n (take n xs)) bytes (omega arith)
+    (λ k l. filled-at f 0 n (take n xs) k 0 (omega arith) (omega arith) (omega arith))
 
 pub wrote-length : {bytes : List ℕ} {at n : ℕ} {xs ys : List ℕ} → Wrote bytes at n xs ys → length ys ≡ length xs
 wrote-length {bytes} {at} {xs} p = ap length (p .text) ∙ placed-length bytes at xs

@@ -5,7 +5,7 @@ use mathlib.Core.List.{List, [], _∷_, _++_}
 use lib.Dec.{ltb}
 use lib.ListN.{length, replicate, getD}
 use Rattle.terms.specs.Answers.{refuse, written, valueOrZero}
-use Rattle.terms.specs.Limits.{stoppingPurpose, lastBit, greatestListing}
+use Rattle.terms.specs.Limits.{stoppingPurpose, lastBit}
 use Rattle.terms.specs.Refusals.{roomRefused}
 use Rattle.terms.specs.declared.Answer.{Answer}
 use Rattle.terms.specs.declared.Answer.the-variants.{Number}
@@ -61,13 +61,13 @@ abbrev pub zoneLines : ℕ → List ℕ → ℕ → List ℕ
 zoneLines letter ends n = joined (λ k. zoneLine letter (getD ends (2 * k) 0) (getD ends (2 * k + 1) 0)) n
 
 -- the letters of bits 0 to 4: S D R s d
-abbrev pub letters : List ℕ
-letters = 83 ∷ 68 ∷ 82 ∷ 115 ∷ 100 ∷ []
+abbrev pub bitLetters : List ℕ
+bitLetters = 83 ∷ 68 ∷ 82 ∷ 115 ∷ 100 ∷ []
 
 -- the zones of bit b of the marks
 unfoldable pub bitLines : List ℕ → ℕ → List ℕ
 bitLines marks b =
-    let n = length marks in zoneLines (getD letters b 0) (zoneEnds marks b n) (zoneCount marks b n)
+    let n = length marks in zoneLines (getD bitLetters b 0) (zoneEnds marks b n) (zoneCount marks b n)
 
 -- the zones of all bits, in the order of the letters
 abbrev pub zonesText : List ℕ → List ℕ
@@ -82,6 +82,7 @@ unfoldable pub linesFor : ℕ → ℕ → List ℕ → List ℕ
 linesFor speed purpose marks =
     firstLine speed (valueOrZero (requiredDistance speed stoppingPurpose)) (valueOrZero (requiredDistance speed purpose)) ++ zonesText marks
 
+-- by reading's verdict: the road's text, or the line of the refusal
 abbrev pub textFor : Verdict → List ℕ → List ℕ
 textFor Accepted file = let r = roadIn file in linesFor (r .speed) (r .purpose) (ownMarks file)
 textFor (Fault k) file = refusedLine k
@@ -90,9 +91,9 @@ textFor (Fault k) file = refusedLine k
 unfoldable pub listing : List ℕ → List ℕ
 listing file = textFor (readVerdict file) file
 
--- ---- the operation: refused 14 where the buffer is shorter than the longest listing; else how many bytes are written
+-- ---- the operation: refused 14 where the buffer is shorter than the listing; else how many bytes are written
 unfoldable pub listAnswer : List ℕ → List ℕ → Answer
-listAnswer file buffer = refuse (ltb (length buffer) greatestListing) roomRefused (Number (length (listing file)))
+listAnswer file buffer = let n = length (listing file) in refuse (ltb (length buffer) n) roomRefused (Number n)
 
 -- the text from byte 0 on, bytes beyond stay; where it is refused all stay
 unfoldable pub listBuffer : List ℕ → List ℕ → List ℕ

@@ -75,7 +75,7 @@ fn write_item(x: u32, end: u8, text: &mut [u8], at: usize) -> usize
 }
 
 // Writes the line of a refusal.
-fn write_refused(k: u32, text: &mut [u8], at: usize) -> usize
+fn write_refused_line(k: u32, text: &mut [u8], at: usize) -> usize
     requires { ⌜ Room (refusedLine k) at (now text) ⌝ }
     ensures { λ r. ⌜ Wrote (refusedLine k) at r (now (text .entry)) (now (text .exit)) ⌝ }
 {
@@ -84,7 +84,7 @@ fn write_refused(k: u32, text: &mut [u8], at: usize) -> usize
 }
 
 // Writes the first line.
-fn write_first(speed: u32, stopping: u32, decision: u32, text: &mut [u8], at: usize) -> usize
+fn write_first_line(speed: u32, stopping: u32, decision: u32, text: &mut [u8], at: usize) -> usize
     requires { ⌜ Room (firstLine speed stopping decision) at (now text) ⌝ }
     ensures { λ r. ⌜ Wrote (firstLine speed stopping decision) at r (now (text .entry)) (now (text .exit)) ⌝ }
 {
@@ -96,7 +96,7 @@ fn write_first(speed: u32, stopping: u32, decision: u32, text: &mut [u8], at: us
 }
 
 // Writes the line of a zone.
-fn write_zone(letter: u8, first: u16, last: u16, text: &mut [u8], at: usize) -> usize
+fn write_zone_line(letter: u8, first: u16, last: u16, text: &mut [u8], at: usize) -> usize
     requires { ⌜ Room (zoneLine letter first last) at (now text) ⌝ }
     ensures { λ r. ⌜ Wrote (zoneLine letter first last) at r (now (text .entry)) (now (text .exit)) ⌝ }
 {
@@ -107,20 +107,20 @@ fn write_zone(letter: u8, first: u16, last: u16, text: &mut [u8], at: usize) -> 
 }
 
 // Writes the lines of the first `count` zones of a letter, whose first and last stations stand in `ends`.
-fn write_zones(letter: u8, ends: &[u16], count: usize, text: &mut [u8], at: usize) -> usize
+fn write_zone_lines(letter: u8, ends: &[u16], count: usize, text: &mut [u8], at: usize) -> usize
     requires { ⌜ Room (zoneLines letter (now ends) count) at (now text) ⌝ }
     requires { ⌜ 2 * count ≤ length (now ends) ⌝ }
     ensures { λ r. ⌜ Wrote (zoneLines letter (now (ends .entry)) count) at r (now (text .entry)) (now (text .exit)) ⌝ }
 {
     let mut next = at;
     for k in 0..count {
-        next = write_zone(letter, ends[2 * k], ends[2 * k + 1], text, next);
+        next = write_zone_line(letter, ends[2 * k], ends[2 * k + 1], text, next);
     }
     next
 }
 
 // Writes the zones of a bit of the marks.
-fn write_bit(marks: &[u8], bit: u32, text: &mut [u8], at: usize) -> usize
+fn write_bit_lines(marks: &[u8], bit: u32, text: &mut [u8], at: usize) -> usize
     requires { ⌜ Room (bitLines (now marks) bit) at (now text) ⌝ }
     requires { ⌜ (bit ≤ lastBit) × (0 < length (now marks)) × (length (now marks) ≤ greatestList) ⌝ }
     ensures { λ r. ⌜ Wrote (bitLines (now (marks .entry)) bit) at r (now (text .entry)) (now (text .exit)) ⌝ }
@@ -129,20 +129,20 @@ fn write_bit(marks: &[u8], bit: u32, text: &mut [u8], at: usize) -> usize
     let letters = b"SDRsd";
     let b = bit as usize;
     match zones::zones(marks, bit, &mut ends) {
-        Answer::Number(count) => write_zones(letters[b], &ends, count as usize, text, at),
+        Answer::Number(count) => write_zone_lines(letters[b], &ends, count as usize, text, at),
         Answer::Refused(_) => at,
     }
 }
 
 // Writes the zones of all bits.
-fn write_bits(marks: &[u8], text: &mut [u8], at: usize) -> usize
+fn write_zones_text(marks: &[u8], text: &mut [u8], at: usize) -> usize
     requires { ⌜ Room (zonesText (now marks)) at (now text) ⌝ }
     requires { ⌜ (0 < length (now marks)) × (length (now marks) ≤ greatestList) ⌝ }
     ensures { λ r. ⌜ Wrote (zonesText (now (marks .entry))) at r (now (text .entry)) (now (text .exit)) ⌝ }
 {
     let mut next = at;
     for bit in 0..terms::LAST_BIT + 1 {
-        next = write_bit(marks, bit, text, next);
+        next = write_bit_lines(marks, bit, text, next);
     }
     next
 }
@@ -155,8 +155,8 @@ fn write_lines(speed: u32, purpose: u32, marks: &[u8], text: &mut [u8]) -> usize
 {
     let stopping = terms::value_or_zero(distance::required_distance(speed, terms::STOPPING));
     let decision = terms::value_or_zero(distance::required_distance(speed, purpose));
-    let next = write_first(speed, stopping, decision, text, 0);
-    write_bits(marks, text, next)
+    let next = write_first_line(speed, stopping, decision, text, 0);
+    write_zones_text(marks, text, next)
 }
 
 // Writes the listing of a road file, from the place 0 on.
@@ -167,7 +167,7 @@ fn write_listing(file: &[u8], text: &mut [u8]) -> usize
     let read = file::read(file);
     let verdict = read.verdict;
     if let Verdict::Fault(number) = verdict {
-        return write_refused(number as u32, text, 0);
+        return write_refused_line(number as u32, text, 0);
     }
     let road = read.road;
     let mut marks = [0u8; terms::GREATEST_LIST];
@@ -181,13 +181,17 @@ fn write_listing(file: &[u8], text: &mut [u8]) -> usize
     )
 }
 
-// The listing of a road file, into `text` from byte 0 on. The answer is how many bytes are written.
-pub fn list_road(file: &[u8], text: &mut [u8]) -> Answer
+// The listing of a road file, into `text` from byte 0 on. The answer is how many bytes are written. It is written aside first,
+// since its length decides whether it is refused.
+pub fn list_road_file(file: &[u8], text: &mut [u8]) -> Answer
     ensures answer { λ r. ⌜ r ≡ listAnswer (now (file .entry)) (now (text .entry)) ⌝ }
-    ensures text { λ r. ⌜ now (text .exit) ≡ listBuffer (now (file .entry)) (now (text .entry)) ⌝ }
+    ensures list { λ _. ⌜ now (text .exit) ≡ listBuffer (now (file .entry)) (now (text .entry)) ⌝ }
 {
-    if text.len() < terms::GREATEST_LISTING {
+    let mut whole = [0u8; terms::GREATEST_LISTING];
+    let length = write_listing(file, &mut whole);
+    if text.len() < length {
         return Answer::Refused(terms::ROOM_REFUSED);
     }
-    Answer::Number(write_listing(file, text) as u32)
+    write_word(&whole[..length], text, 0);
+    Answer::Number(length as u32)
 }

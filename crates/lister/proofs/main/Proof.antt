@@ -1,4 +1,4 @@
--- `main` is safe: what `list_road` answers is at most the length of the text (`list-answer-fits`).
+-- `main` is safe: what `list_road_file` answers is at most the length of the text (`list-answer-fits`).
 use Prim.Native.Nat.{ℕ, _≤_}
 use mathlib.Core.Path.{sym, _∙_}
 use borrow.Author.Needs.{needs}
@@ -8,11 +8,11 @@ use Rattle.listing.proofs.Longest.{list-answer-fits}
 use Rattle.lister.proofs.main.Statement.{statement}
 use Rattle.lister.proofs.main.Tie as tie
 
-fits : (c : tie.After-known-told) → c .before .length .given .0 .0 ≤ length (c .before .before .before .before .list-road .last .1 .0)
+fits : (c : tie.After-known-told) → c .before .length .given .0 .0 ≤ length (c .before .before .before .before .list-road-file .last .1 .0)
 fits c =
     let l = c .before .before .before .before in
-    let n = list-answer-fits _ _ _ (sym (c .before .length .given .1) ∙ l .list-road .ensures .0) in
-    rw (l .list-road .kept .1 .0) n
+    let n = list-answer-fits _ _ _ (sym (c .before .length .given .1) ∙ l .list-road-file .ensures .0) in
+    rw (l .list-road-file .kept .1 .0) n
 
 slice-aggregate-read-full : tie.Need-slice-aggregate-read-full
 slice-aggregate-read-full c = search needs
@@ -23,14 +23,14 @@ read-full-requires c κs = search needs
 array-share-prefix-bytes : tie.Need-array-share-prefix-bytes
 array-share-prefix-bytes c = search needs
 
-slice-aggregate-list-road : tie.Need-slice-aggregate-list-road
-slice-aggregate-list-road c = search needs
+slice-aggregate-list-road-file : tie.Need-slice-aggregate-list-road-file
+slice-aggregate-list-road-file c = search needs
 
-slice-aggregate-list-road-2 : tie.Need-slice-aggregate-list-road-2
-slice-aggregate-list-road-2 c = sym (length-replicate {A = ℕ} _ 0)
+slice-aggregate-list-road-file-2 : tie.Need-slice-aggregate-list-road-file-2
+slice-aggregate-list-road-file-2 c = sym (length-replicate {A = ℕ} _ 0)
 
-list-road-requires : tie.Need-list-road-requires
-list-road-requires c κs = search needs
+list-road-file-requires : tie.Need-list-road-file-requires
+list-road-file-requires c κs = search needs
 
 enum-known-length : tie.Need-enum-known-length
 enum-known-length c = search needs
@@ -63,9 +63,9 @@ main-spec =
     slice-aggregate-read-full
     read-full-requires
     array-share-prefix-bytes
-    slice-aggregate-list-road
-    slice-aggregate-list-road-2
-    list-road-requires
+    slice-aggregate-list-road-file
+    slice-aggregate-list-road-file-2
+    list-road-file-requires
     enum-known-length
     cast-end
     array-share-prefix-text

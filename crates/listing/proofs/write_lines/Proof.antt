@@ -21,13 +21,13 @@ decision-is : (c : tie.After-value-or-zero2) →
 decision-is c = c .value-or-zero2 .ensures ∙ ap valueOrZero (c .before .required-distance2 .ensures)
 
 -- the first line was written
-first : (c : tie.After-write-first) →
+first : (c : tie.After-write-first-line) →
     let a = c .before .before .before .before .before .before .before .before .args in
     Wrote (firstLine (a .speed) (valueOrZero (requiredDistance (a .speed) 0)) (valueOrZero (requiredDistance (a .speed) (a .purpose)))) 0
-    (c .write-first .result) (a .text .now) (c .write-first .last .1 .1 .1 .0)
+    (c .write-first-line .result) (a .text .now) (c .write-first-line .last .1 .1 .1 .0)
 first c =
     let m = c .before .before in
-    rw (stopping-is (m .before .before), decision-is m) at (c .write-first .ensures)
+    rw (stopping-is (m .before .before), decision-is m) at (c .write-first-line .ensures)
 
 required-distance-requires : tie.Need-required-distance-requires
 required-distance-requires c κs = search needs
@@ -41,16 +41,16 @@ required-distance-requires-2 c κs = search needs
 value-or-zero-requires-2 : tie.Need-value-or-zero-requires-2
 value-or-zero-requires-2 c κs = search needs
 
-write-first-requires : tie.Need-write-first-requires
+write-first-line-requires : tie.Need-write-first-line-requires
 unfolding linesFor
-write-first-requires c κs =
+write-first-line-requires c κs =
     let m = c .before in
     let room = room-first _ _ (m .before .before .before .before .before .before .pre .0) in
     rw (stopping-is (m .before .before), decision-is m) room
 
-write-bits-requires : tie.Need-write-bits-requires
+write-zones-text-requires : tie.Need-write-zones-text-requires
 unfolding linesFor
-write-bits-requires c κs =
+write-zones-text-requires c κs =
     let w = c .before .before .before in
     (room-next _ (w .before .before .before .before .before .before .before .before .pre .0) (first w), omega arith)
 
@@ -61,7 +61,7 @@ returns : tie.Need-returns
 unfolding linesFor
 returns c =
     let v = c .before .before in
-    wrote-join (first (v .before .before .before .before)) (v .write-bits .ensures)
+    wrote-join (first (v .before .before .before .before)) (v .write-zones-text .ensures)
 
 pub write-lines-spec : {M : Type 1} → statement M
 write-lines-spec =
@@ -71,7 +71,7 @@ write-lines-spec =
     value-or-zero-requires
     required-distance-requires-2
     value-or-zero-requires-2
-    write-first-requires
-    write-bits-requires
+    write-first-line-requires
+    write-zones-text-requires
     same-length
     returns)

@@ -11,10 +11,9 @@ use Rattle.terms.specs.Limits.{greatestList}
 use Rattle.terms.specs.declared.Verdict.the-variants.{Accepted, Fault}
 use Rattle.road.specs.declared.Road.{Road}
 use Rattle.road.proofs.Accepted.{SoundRoad, accepted-road}
-use Rattle.file.specs.declared.ReadRoad.{ReadRoad}
 use Rattle.file.specs.File.{roadIn}
-use Rattle.file.specs.Operations.{readVerdict, readRoad}
-use Rattle.file.proofs.Sound.{accepted-file, read-accepted}
+use Rattle.file.specs.Operations.{readVerdict}
+use Rattle.file.proofs.Sound.{accepted-file, verdict-read, road-read}
 use Rattle.listing.specs.Listing.{refusedLine, linesFor, ownMarks, listing}
 use Rattle.listing.proofs.Lent.{own-marks-front}
 use Rattle.listing.proofs.write_listing.Statement.{statement}
@@ -32,8 +31,7 @@ listing-road file r e p = rw (p, e) refl
 
 -- ---- what was read
 verdict-is : (c : tie.After-read) → c .read .result .verdict ≡ readVerdict (c .before .before .before .args .file .now)
-unfolding readRoad
-verdict-is c = ap (λ (r : ReadRoad). r .verdict) (c .read .ensures)
+verdict-is c = verdict-read _ _ (c .read .ensures)
 
 refused : (c : tie.After-verdict) →
     listing (c .before .before .before .before .before .args .file .now) ≡ refusedLine (c .verdict .given .0 .0)
@@ -44,7 +42,7 @@ accepted c = sym (verdict-is (c .before .before)) ∙ c .enum-told .given .1
 
 road-is : (c : tie.After-enum-told) →
     c .before .before .read .result .road ≡ roadIn (c .before .before .before .before .before .args .file .now)
-road-is c = ap (λ (r : ReadRoad). r .road) (c .before .before .read .ensures ∙ read-accepted _ (accepted c))
+road-is c = road-read _ _ (c .before .before .read .ensures) (accepted c)
 
 sound : (c : tie.After-enum-told) → SoundRoad (c .before .before .read .result .road)
 sound c = accepted-road _ (rw (road-is c) (accepted-file _ (accepted c) .road))
@@ -82,11 +80,11 @@ read-requires c κs = search needs
 enum-known-verdict : tie.Need-enum-known-verdict
 enum-known-verdict c = search needs
 
-cast-write-refused : tie.Need-cast-write-refused
-cast-write-refused c = search needs
+cast-write-refused-line : tie.Need-cast-write-refused-line
+cast-write-refused-line c = search needs
 
-write-refused-requires : tie.Need-write-refused-requires
-write-refused-requires c κs =
+write-refused-line-requires : tie.Need-write-refused-line-requires
+write-refused-line-requires c κs =
     let v = c .before .before in
     rw (refused v) at (v .before .before .before .before .before .pre)
 
@@ -96,7 +94,7 @@ same-length c = search needs
 returns : tie.Need-returns
 returns c =
     let w = c .before .before in
-    rw (refused (w .before .before .before)) (w .write-refused .ensures)
+    rw (refused (w .before .before .before)) (w .write-refused-line .ensures)
 
 enum-told : tie.Need-enum-told
 enum-told c = search needs
@@ -146,8 +144,8 @@ write-listing-spec =
     (tie.spec
     read-requires
     enum-known-verdict
-    cast-write-refused
-    write-refused-requires
+    cast-write-refused-line
+    write-refused-line-requires
     same-length
     returns
     enum-told

@@ -1,10 +1,10 @@
--- `write_first` meets its contract: its items one behind the other.
+-- `write_first_line` meets its contract: its items one behind the other.
 use mathlib.Core.List.{[], _∷_}
 use borrow.Author.Needs.{needs}
 use Rattle.listing.specs.Listing.{space, firstLine}
 use Rattle.listing.proofs.Writing.{wrote-join, room-first, room-next}
-use Rattle.listing.proofs.write_first.Statement.{statement}
-use Rattle.listing.proofs.write_first.Tie as tie
+use Rattle.listing.proofs.write_first_line.Statement.{statement}
+use Rattle.listing.proofs.write_first_line.Tie as tie
 
 slice-aggregate-write-word : tie.Need-slice-aggregate-write-word
 slice-aggregate-write-word c = search needs
@@ -62,8 +62,8 @@ returns c =
     let two = wrote-join (v .write-item .ensures) (u .write-item2 .ensures) in
     wrote-join (w .write-word .ensures) (wrote-join (wrote-join two (t .write-item3 .ensures)) (s .write-item4 .ensures))
 
-pub write-first-spec : {M : Type 1} → statement M
-write-first-spec =
+pub write-first-line-spec : {M : Type 1} → statement M
+write-first-line-spec =
     tie.close
     (tie.spec
     slice-aggregate-write-word

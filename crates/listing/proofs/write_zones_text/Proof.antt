@@ -1,4 +1,4 @@
--- `write_bits` meets its contract. The loop's invariant: the zones of the bits below `bit` were written. The measure is what is
+-- `write_zones_text` meets its contract. The loop's invariant: the zones of the bits below `bit` were written. The measure is what is
 -- left of the bits.
 use Prim.Native.Nat.{_≤_, _+_, _-_}
 use mathlib.Core.Path.{_≡_}
@@ -8,8 +8,8 @@ use Rattle.terms.specs.Limits.{lastBit}
 use Rattle.listing.specs.Listing.{joined, bitLines}
 use Rattle.listing.specs.Writing.{Wrote}
 use Rattle.listing.proofs.Writing.{wrote-zero, wrote-turn, wrote-length, room-turn}
-use Rattle.listing.proofs.write_bits.Statement.{statement}
-use Rattle.listing.proofs.write_bits.Tie as tie
+use Rattle.listing.proofs.write_zones_text.Statement.{statement}
+use Rattle.listing.proofs.write_zones_text.Tie as tie
 
 abbrev Inv-loop : tie.InvT-loop
 Inv-loop marks text₀ at next₀ bit₀ text next bit = (bit ≤ lastBit + 1) × Wrote (joined (bitLines marks) bit) at next text₀ text
@@ -20,8 +20,8 @@ abbrev μ-loop : tie.MeasureT-loop
 loop-holds : tie.Need-loop-holds Inv-loop μ-loop
 loop-holds c = (omega arith, wrote-zero _ _ _)
 
-write-bit-requires : tie.Need-write-bit-requires Inv-loop μ-loop
-write-bit-requires c κs =
+write-bit-lines-requires : tie.Need-write-bit-lines-requires Inv-loop μ-loop
+write-bit-lines-requires c κs =
     let h = c .before .before in
     let s = h .before .before .before in
     (room-turn (bitLines (s .args .marks .now)) (s .pre .0) (omega arith) (h .loop .inv .1), omega arith)
@@ -36,7 +36,7 @@ loop-again : tie.Need-loop-again Inv-loop μ-loop
 loop-again c =
     let w = c .before .before in
     let h = w .before .before .before in
-    (omega arith, wrote-turn (bitLines (h .before .before .before .args .marks .now)) (h .loop .inv .1) (w .write-bit .ensures))
+    (omega arith, wrote-turn (bitLines (h .before .before .before .args .marks .now)) (h .loop .inv .1) (w .write-bit-lines .ensures))
 
 same-length : tie.Need-same-length Inv-loop μ-loop
 same-length c = wrote-length (c .before .loop .inv .1)
@@ -46,14 +46,14 @@ returns c =
     let all : c .before .loop .bit ≡ lastBit + 1 = omega arith in
     rw all at (c .before .loop .inv .1)
 
-pub write-bits-spec : {M : Type 1} → statement M
-write-bits-spec =
+pub write-zones-text-spec : {M : Type 1} → statement M
+write-zones-text-spec =
     tie.close
     (tie.spec
     Inv-loop
     μ-loop
     loop-holds
-    write-bit-requires
+    write-bit-lines-requires
     add-bit
     loop-less
     loop-again

@@ -1,10 +1,10 @@
--- `write_refused` meets its contract: the word and the number, one behind the other.
+-- `write_refused_line` meets its contract: the word and the number, one behind the other.
 use mathlib.Core.List.{[], _∷_}
 use borrow.Author.Needs.{needs}
 use Rattle.listing.specs.Listing.{space, refusedLine}
 use Rattle.listing.proofs.Writing.{wrote-join, room-first, room-next}
-use Rattle.listing.proofs.write_refused.Statement.{statement}
-use Rattle.listing.proofs.write_refused.Tie as tie
+use Rattle.listing.proofs.write_refused_line.Statement.{statement}
+use Rattle.listing.proofs.write_refused_line.Tie as tie
 
 slice-aggregate-write-word : tie.Need-slice-aggregate-write-word
 slice-aggregate-write-word c = search needs
@@ -28,8 +28,8 @@ returns c =
     let v = c .before .before in
     wrote-join (v .before .before .before .before .write-word .ensures) (v .write-item .ensures)
 
-pub write-refused-spec : {M : Type 1} → statement M
-write-refused-spec =
+pub write-refused-line-spec : {M : Type 1} → statement M
+write-refused-line-spec =
     tie.close
     (tie.spec
     slice-aggregate-write-word

@@ -1,10 +1,10 @@
--- `write_zone` meets its contract: its letter and its items one behind the other.
+-- `write_zone_line` meets its contract: its letter and its items one behind the other.
 use mathlib.Core.List.{[], _∷_}
 use borrow.Author.Needs.{needs}
 use Rattle.listing.specs.Listing.{space, zoneLine}
 use Rattle.listing.proofs.Writing.{wrote-join, room-first, room-next}
-use Rattle.listing.proofs.write_zone.Statement.{statement}
-use Rattle.listing.proofs.write_zone.Tie as tie
+use Rattle.listing.proofs.write_zone_line.Statement.{statement}
+use Rattle.listing.proofs.write_zone_line.Tie as tie
 
 write-byte-requires : tie.Need-write-byte-requires
 unfolding zoneLine
@@ -45,8 +45,8 @@ returns c =
     wrote-join (w .write-byte .ensures)
     (wrote-join (v .write-byte2 .ensures) (wrote-join (u .write-item .ensures) (t .write-item2 .ensures)))
 
-pub write-zone-spec : {M : Type 1} → statement M
-write-zone-spec =
+pub write-zone-line-spec : {M : Type 1} → statement M
+write-zone-line-spec =
     tie.close
     (tie.spec
     write-byte-requires

@@ -1,4 +1,4 @@
--- `write_zones` meets its contract. The loop's invariant: the lines of the first `k` zones were written. The measure is what is
+-- `write_zone_lines` meets its contract. The loop's invariant: the lines of the first `k` zones were written. The measure is what is
 -- left of the zones.
 use Prim.Native.Nat.{ℕ, _≤_, _-_, _+_, _*_}
 use mathlib.Core.Path.{_≡_}
@@ -9,8 +9,8 @@ use lib.ListN.{getD}
 use Rattle.listing.specs.Listing.{zoneLine, zoneLines}
 use Rattle.listing.specs.Writing.{Wrote}
 use Rattle.listing.proofs.Writing.{wrote-zero, wrote-turn, wrote-length, room-turn}
-use Rattle.listing.proofs.write_zones.Statement.{statement}
-use Rattle.listing.proofs.write_zones.Tie as tie
+use Rattle.listing.proofs.write_zone_lines.Statement.{statement}
+use Rattle.listing.proofs.write_zone_lines.Tie as tie
 
 -- the line of zone k
 abbrev line : ℕ → List ℕ → ℕ → List ℕ
@@ -25,29 +25,29 @@ abbrev μ-loop : tie.MeasureT-loop
 loop-holds : tie.Need-loop-holds Inv-loop μ-loop
 loop-holds c = (omega arith, wrote-zero _ _ _)
 
-mul-write-zone : tie.Need-mul-write-zone Inv-loop μ-loop
-mul-write-zone c = search needs
+mul-write-zone-line : tie.Need-mul-write-zone-line Inv-loop μ-loop
+mul-write-zone-line c = search needs
 
-mul-write-zone-2 : tie.Need-mul-write-zone-2 Inv-loop μ-loop
-mul-write-zone-2 c = search needs
+mul-write-zone-line-2 : tie.Need-mul-write-zone-line-2 Inv-loop μ-loop
+mul-write-zone-line-2 c = search needs
 
-shared-slice-read-write-zone : tie.Need-shared-slice-read-write-zone Inv-loop μ-loop
-shared-slice-read-write-zone c = search needs
+shared-slice-read-write-zone-line : tie.Need-shared-slice-read-write-zone-line Inv-loop μ-loop
+shared-slice-read-write-zone-line c = search needs
 
-mul-write-zone-3 : tie.Need-mul-write-zone-3 Inv-loop μ-loop
-mul-write-zone-3 c = search needs
+mul-write-zone-line-3 : tie.Need-mul-write-zone-line-3 Inv-loop μ-loop
+mul-write-zone-line-3 c = search needs
 
-add-write-zone : tie.Need-add-write-zone Inv-loop μ-loop
-add-write-zone c = search needs
+add-write-zone-line : tie.Need-add-write-zone-line Inv-loop μ-loop
+add-write-zone-line c = search needs
 
-mul-write-zone-4 : tie.Need-mul-write-zone-4 Inv-loop μ-loop
-mul-write-zone-4 c = search needs
+mul-write-zone-line-4 : tie.Need-mul-write-zone-line-4 Inv-loop μ-loop
+mul-write-zone-line-4 c = search needs
 
-shared-slice-read-write-zone-2 : tie.Need-shared-slice-read-write-zone-2 Inv-loop μ-loop
-shared-slice-read-write-zone-2 c = search needs
+shared-slice-read-write-zone-line-2 : tie.Need-shared-slice-read-write-zone-line-2 Inv-loop μ-loop
+shared-slice-read-write-zone-line-2 c = search needs
 
-write-zone-requires : tie.Need-write-zone-requires Inv-loop μ-loop
-write-zone-requires c κs =
+write-zone-line-requires : tie.Need-write-zone-line-requires Inv-loop μ-loop
+write-zone-line-requires c κs =
     let h = c .before .before .before .before in
     let s = h .before .before .before in
     room-turn (line (s .args .letter) (s .args .ends .now)) (s .pre .0) (omega arith) (h .loop .inv .1)
@@ -63,7 +63,7 @@ loop-again c =
     let w = c .before .before in
     let h = w .before .before .before .before .before in
     let a = h .before .before .before .args in
-    (omega arith, wrote-turn (line (a .letter) (a .ends .now)) (h .loop .inv .1) (w .write-zone .ensures))
+    (omega arith, wrote-turn (line (a .letter) (a .ends .now)) (h .loop .inv .1) (w .write-zone-line .ensures))
 
 same-length : tie.Need-same-length Inv-loop μ-loop
 same-length c = wrote-length (c .before .loop .inv .1)
@@ -73,21 +73,21 @@ returns c =
     let all : c .before .loop .k ≡ c .before .before .before .before .args .count = omega arith in
     rw all at (c .before .loop .inv .1)
 
-pub write-zones-spec : {M : Type 1} → statement M
-write-zones-spec =
+pub write-zone-lines-spec : {M : Type 1} → statement M
+write-zone-lines-spec =
     tie.close
     (tie.spec
     Inv-loop
     μ-loop
     loop-holds
-    mul-write-zone
-    mul-write-zone-2
-    shared-slice-read-write-zone
-    mul-write-zone-3
-    add-write-zone
-    mul-write-zone-4
-    shared-slice-read-write-zone-2
-    write-zone-requires
+    mul-write-zone-line
+    mul-write-zone-line-2
+    shared-slice-read-write-zone-line
+    mul-write-zone-line-3
+    add-write-zone-line
+    mul-write-zone-line-4
+    shared-slice-read-write-zone-line-2
+    write-zone-line-requires
     add-k
     loop-less
     loop-again
