@@ -1,1 +1,2 @@
-// The table of document 01's starred cases, proved of the definitions that the contracts cite: specs/Cases.antt.
+// The table of document 01's starred cases, specs/Cases.antt, proved of the definitions that the contracts cite:
+// `starred-cases` in proofs/Cases.antt.

@@ -1,0 +1,19 @@
+-- The starred cases hold by computing.
+use mathlib.Core.Path.{refl}
+use Rattle.whole.specs.Floor.{floorDiv}
+use Rattle.distance.specs.Distance.{requiredDistance, levelParts, upToFive}
+use Rattle.crest.specs.Crest.{crestLength, leastEven, adequate, withinRoot}
+use Rattle.road.specs.Road.{roadVerdict, curvesVerdict, curveVerdict}
+use Rattle.road.specs.Profile.{storedHeight, exactHeight, exactFrom}
+use Rattle.sight.specs.Sight.{availableSight, reach, seen, every, clears}
+use Rattle.sight.specs.Operations.{sightAnswer}
+use Rattle.cases.specs.Cases.{StarredCases, curve, crestRoad}
+
+pub starred-cases : StarredCases
+unfolding requiredDistance levelParts upToFive crestLength leastEven adequate withinRoot roadVerdict curvesVerdict curveVerdict storedHeight exactHeight exactFrom floorDiv crestRoad curve sightAnswer availableSight reach seen every clears
+starred-cases = record {
+  distances = (refl, refl, refl, refl);
+  crests = (refl, refl, refl, refl);
+  heights = (refl, refl, refl, refl, refl, refl);
+  sights = (refl, refl, refl);
+}
