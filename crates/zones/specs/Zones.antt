@@ -20,10 +20,11 @@ unfoldable pub beginsAt : List ℕ → ℕ → ℕ → Bool
 beginsAt marks b zero = hasBit marks b 0
 beginsAt marks b (suc i) = hasBit marks b (suc i) && not (hasBit marks b i)
 
--- a zone ends at station i: it has the bit, and the station just behind it has not
+-- a zone ends at station i: it has the bit, and the next station has not
 unfoldable pub endsAt : List ℕ → ℕ → ℕ → Bool
 endsAt marks b i = hasBit marks b i && not (hasBit marks b (i + 1))
 
+-- the station alone where the test holds, else none
 abbrev pub only : Bool → ℕ → List ℕ
 only test i = cond test (i ∷ []) []
 

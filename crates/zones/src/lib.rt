@@ -80,15 +80,12 @@ fn write_zones(marks: &[u8], bit: u32, list: &mut [u16])
 // The zones of a bit: the first and the last station of each, in pairs, ascending, into `list`. The answer is their number.
 pub fn zones(marks: &[u8], bit: u32, list: &mut [u16]) -> Answer
     ensures answer { λ r. ⌜ r ≡ zonesAnswer (now (marks .entry)) bit (now (list .entry)) ⌝ }
-    ensures written { λ _. ⌜ now (list .exit) ≡ zonesList (now (marks .entry)) bit (now (list .entry)) ⌝ }
+    ensures list { λ _. ⌜ now (list .exit) ≡ zonesList (now (marks .entry)) bit (now (list .entry)) ⌝ }
 {
     if terms::LAST_BIT < bit {
         return Answer::Refused(terms::BIT_REFUSED);
     }
-    if marks.len() < 1 {
-        return Answer::Refused(terms::LIST_REFUSED);
-    }
-    if terms::GREATEST_LIST < marks.len() {
+    if terms::list_outside(marks.len()) {
         return Answer::Refused(terms::LIST_REFUSED);
     }
     let count = count_zones(marks, bit);
