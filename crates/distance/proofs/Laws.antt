@@ -9,7 +9,7 @@ use Rattle.terms.specs.Answers.{outside}
 use Rattle.terms.specs.Limits.{leastSpeed, greatestSpeed, lastPurpose}
 use Rattle.terms.proofs.Laws.{AtMost, refuse-at-most, inside}
 use Rattle.distance.specs.declared.Purpose.{Purpose}
-use Rattle.distance.specs.Distance.{purposeRow, levelParts, upToFive, requiredDistance}
+use Rattle.distance.specs.Distance.{purposeRow, metreParts, levelParts, upToFive, requiredDistance}
 
 -- ---- rounding up to 5 m
 module _ (num den : ℕ) (l : 0 < den) where
@@ -43,7 +43,7 @@ cond-small true h = h
 cond-small false h = omega arith
 
 -- at most 718 m
-pub level-parts-small : (v : ℕ) (p : Purpose) → v ≤ 130 → p .reaction ≤ 145 → levelParts v p ≤ 122040100
+pub level-parts-small : (v : ℕ) (p : Purpose) → v ≤ greatestSpeed → p .reaction ≤ 145 → levelParts v p ≤ 122040100
 unfolding levelParts
 level-parts-small v p h k =
     let r = mul-le-mul h k in
@@ -58,4 +58,4 @@ required-at-most v p =
     refuse-at-most (ltb lastPurpose p) _ _ _ (omega arith) (λ t.
     let h = inside leastSpeed greatestSpeed v s in
     let n = level-parts-small v (purposeRow p) (h .1) (reaction-small p) in
-    omega (arith, up-to-five-below (levelParts v (purposeRow p)) 170000 (omega arith))))
+    omega (arith, up-to-five-below (levelParts v (purposeRow p)) metreParts (omega arith))))

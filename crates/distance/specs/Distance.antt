@@ -24,10 +24,15 @@ row t b = record { reaction = t; braking = b }
 abbrev pub purposes : List Purpose
 purposes = row 25 true ∷ row 30 true ∷ row 91 true ∷ row 112 false ∷ row 129 false ∷ row 145 false ∷ []
 
+-- the row of a purpose; zeros for one over 5, which is refused first
 abbrev pub purposeRow : ℕ → Purpose
 purposeRow p = getD purposes p (row 0 false)
 
--- the distance on a level road before rounding, in parts of a metre of which 170,000 make one
+-- the parts of a metre that distances are counted in before rounding
+abbrev pub metreParts : ℕ
+metreParts = 170000
+
+-- the distance on a level road before rounding, in those parts
 unfoldable pub levelParts : ℕ → Purpose → ℕ
 levelParts v p = 4726 * v * p .reaction + cond (p .braking) (1950 * v * v) 0
 
@@ -40,4 +45,4 @@ unfoldable pub requiredDistance : ℕ → ℕ → Answer
 requiredDistance v p =
     refuse (outside leastSpeed greatestSpeed v) speedRefused
     (refuse (ltb lastPurpose p) purposeRefused
-    (Number (upToFive (levelParts v (purposeRow p)) 170000)))
+    (Number (upToFive (levelParts v (purposeRow p)) metreParts)))

@@ -40,7 +40,7 @@ const PURPOSES: [Purpose; 6] = [
 ];
 
 // One metre of the level distance, in the parts that `level_parts` counts.
-const PARTS: u64 = 170000;
+const METRE_PARTS: u64 = 170000;
 
 // The distance on a level road before rounding: 0.278 V T + 0.039 V² / 3.4 metres, in parts of which 170,000 make one.
 fn level_parts(speed: u64, row: Purpose) -> u64
@@ -75,5 +75,5 @@ pub fn required_distance(speed: u32, purpose: u32) -> Answer
     }
     let at = purpose as usize;
     let parts = level_parts(speed as u64, PURPOSES[at]);
-    Answer::Number(up_to_five(parts, PARTS) as u32)
+    Answer::Number(up_to_five(parts, METRE_PARTS) as u32)
 }

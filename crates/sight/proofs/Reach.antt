@@ -5,19 +5,12 @@ use mathlib.Core.List.{List}
 use mathlib.Core.Logic.{_⊎_, inl, inr, ⊎-elim}
 use Prim.Native.Nat.{ℕ, zero, suc, _+_, _-_, _≤_, _<_}
 use native.Mathlib.Omega.{arith}
-use borrow.Author.Tests.{lt-ltb, le-ltb}
 use lib.Dec.{T, ltb, ltb→lt, nltb→le}
 use lib.IntN.{ℤ}
 use lib.ListN.{length}
 use Rattle.sight.specs.Sight.{at, seen, reach, least, availableSight}
 
 -- ---- the lesser of two
-pub least-lt : (a b : ℕ) → a < b → least a b ≡ a
-least-lt a b l = simp (lt-ltb a b l)
-
-pub least-ge : (a b : ℕ) → b ≤ a → least a b ≡ b
-least-ge a b l = simp (le-ltb a b l)
-
 least-either : (a b : ℕ) → ((a < b) × (least a b ≡ a)) ⊎ ((b ≤ a) × (least a b ≡ b))
 least-either a b = go (ltb a b) (ltb→lt a b) (nltb→le a b)
   where
@@ -108,10 +101,6 @@ module _ (list : List ℤ) (i e o : ℕ) where
   pub sight-le-far : (far : ℕ) → availableSight list i e o far ≤ far
   unfolding availableSight
   sight-le-far far = omega (arith, reach-le clear (least far ahead), least-le-left far ahead)
-
-  pub sight-le-left : (far : ℕ) → availableSight list i e o far ≤ length list - 1 - i
-  unfolding availableSight
-  sight-le-left far = omega (arith, reach-le clear (least far ahead), least-le-right far ahead)
 
   -- sight up to a nearer distance is the lesser of that and the sight up to a farther one
   pub sight-least : (a b : ℕ) → a ≤ b → availableSight list i e o a ≡ least a (availableSight list i e o b)

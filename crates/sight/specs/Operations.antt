@@ -1,4 +1,5 @@
--- Document 01, "Sight from one station" and "Sight profile": the answers, and what the lent list holds at the end.
+-- Document 01, "What can be seen", Sight from one station and Sight profile: the answers, and what the lent list holds at the
+-- end.
 use Prim.Native.Nat.{ℕ}
 use mathlib.Core.List.{List}
 use lib.Dec.{ltb, leb}

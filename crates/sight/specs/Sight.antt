@@ -31,6 +31,7 @@ unfoldable pub reach : (ℕ → Bool) → ℕ → ℕ
 reach p zero = 0
 reach p (suc n) = cond (p 1) (suc (reach (λ t. p (suc t)) n)) 0
 
+-- the lesser of two
 abbrev pub least : ℕ → ℕ → ℕ
 least a b = cond (ltb a b) a b
 

@@ -48,8 +48,8 @@ fn available(heights: &[i32], i: usize, e: u32, o: u32, far: usize) -> usize
     requires { ⌜ (i < length (now heights)) × (far ≤ greatestFarthest) ⌝ }
     ensures { λ r. ⌜ r ≡ availableSight (now (heights .entry)) i e o far ⌝ }
 {
-    let behind = heights.len() - i;
-    let end = if far < behind { far + 1 } else { behind };
+    let ahead = heights.len() - i;
+    let end = if far < ahead { far + 1 } else { ahead };
     if end < 2 {
         return 0;
     }
@@ -79,7 +79,7 @@ pub fn sight(heights: &[i32], station: u32, eye: u32, object: u32, farthest: u32
 // Each station's sight, into the place of the station.
 fn fill_sights(heights: &[i32], e: u32, o: u32, far: usize, sights: &mut [u16])
     requires { ⌜ (length (now heights) ≤ length (now sights)) × (far ≤ greatestFarthest) ⌝ }
-    ensures { λ r. ⌜ now (sights .exit) ≡ filled (λ i. availableSight (now (heights .entry)) i e o far) 0 (length (now (heights .entry))) (now (sights .entry)) ⌝ }
+    ensures { λ _. ⌜ now (sights .exit) ≡ filled (λ i. availableSight (now (heights .entry)) i e o far) 0 (length (now (heights .entry))) (now (sights .entry)) ⌝ }
 {
     for i in 0..heights.len() {
         sights[i] = available(heights, i, e, o, far) as u16;
@@ -89,7 +89,7 @@ fn fill_sights(heights: &[i32], e: u32, o: u32, far: usize, sights: &mut [u16])
 // The sight profile: every station's sight.
 pub fn profile(heights: &[i32], eye: u32, object: u32, farthest: u32, sights: &mut [u16]) -> Answer
     ensures answer { λ r. ⌜ r ≡ profileAnswer (now (heights .entry)) eye object farthest (now (sights .entry)) ⌝ }
-    ensures list { λ r. ⌜ now (sights .exit) ≡ profileList (now (heights .entry)) eye object farthest (now (sights .entry)) ⌝ }
+    ensures list { λ _. ⌜ now (sights .exit) ≡ profileList (now (heights .entry)) eye object farthest (now (sights .entry)) ⌝ }
 {
     if terms::list_outside(heights.len()) {
         return Answer::Refused(terms::LIST_REFUSED);

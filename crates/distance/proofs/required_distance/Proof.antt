@@ -7,7 +7,7 @@ use native.Mathlib.Omega.{arith}
 use Rattle.terms.specs.Limits.{leastSpeed, greatestSpeed}
 use Rattle.terms.specs.declared.Answer.the-variants.{Number}
 use Rattle.terms.proofs.Laws.{not-outside-in}
-use Rattle.distance.specs.Distance.{requiredDistance, purposeRow, upToFive}
+use Rattle.distance.specs.Distance.{requiredDistance, purposeRow, metreParts, upToFive}
 use Rattle.distance.proofs.Laws.{reaction-small, level-parts-small, up-to-five-below}
 use Rattle.distance.proofs.required_distance.Statement.{statement}
 use Rattle.distance.proofs.required_distance.Tie as tie
@@ -49,14 +49,14 @@ up-to-five-requires c κs = (omega arith, omega (arith, parts-small c), omega ar
 cast-t19 : tie.Need-cast-t19
 cast-t19 c =
     let num = c .before .level-parts .result in
-    record { fits = omega (arith, parts-small (c .before), c .up-to-five .ensures, up-to-five-below num 170000 (omega arith)) }
+    record { fits = omega (arith, parts-small (c .before), c .up-to-five .ensures, up-to-five-below num metreParts (omega arith)) }
 
 returns-3 : tie.Need-returns-3
 unfolding requiredDistance
 returns-3 c =
     let s = c .before .before .before in
     simp (sym (s .before .before .outside .ensures) ∙ s .before .if1 .left, le-ltb _ _ (s .if2 .left))
-    (ap Number (c .up-to-five .ensures ∙ ap (λ (n : ℕ). upToFive n 170000) (c .before .level-parts .ensures)))
+    (ap Number (c .up-to-five .ensures ∙ ap (λ (n : ℕ). upToFive n metreParts) (c .before .level-parts .ensures)))
 
 pub required-distance-spec : {M : Type 1} → statement M
 required-distance-spec =

@@ -12,8 +12,8 @@ use Rattle.sight.proofs.Reach.{le-least, least-le-left, least-le-right}
 use Rattle.sight.proofs.available.Statement.{statement}
 use Rattle.sight.proofs.available.Tie as tie
 
-sub-behind : tie.Need-sub-behind
-sub-behind c = search needs
+sub-ahead : tie.Need-sub-ahead
+sub-ahead c = search needs
 
 add-end : tie.Need-add-end
 add-end c = search needs
@@ -50,4 +50,4 @@ unfolding availableSight
 returns-2 c = rw (limit-is (c .before .before)) at (c .search-sight .ensures)
 
 pub available-spec : {M : Type 1} → statement M
-available-spec = tie.close (tie.spec sub-behind add-end returns search-sight-requires returns-2)
+available-spec = tie.close (tie.spec sub-ahead add-end returns search-sight-requires returns-2)

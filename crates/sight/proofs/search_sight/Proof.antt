@@ -12,6 +12,7 @@ use mir.Syntax.{w32, w64}
 use mir.Val.{SFits, toZ}
 use Rattle.whole.proofs.Range.{Reads, fitB, natB, addB, negB, asB, countB, countR, fits-by, same-by, sizes, reads}
 use Rattle.whole.proofs.Machine.{le-yes, le-no, lt-yes, lt-no}
+use Rattle.terms.specs.Limits.{greatestFarthest}
 use Rattle.sight.specs.Sight.{at}
 use Rattle.sight.proofs.Steepest.{rise, Passed, passed-one, passed-steep, passed-seen, passed-hidden, passed-all}
 use Rattle.sight.proofs.search_sight.Statement.{statement}
@@ -74,8 +75,8 @@ module _ (c : tie.After-road Inv-search μ-search) where
       record {
         before = at-first outer;
         there = sfits-of (c .road .given);
-        next = countR w64 (head .search .next) 8000 (omega arith);
-        run = countR w64 (head .search .run) 8000 (omega arith);
+        next = countR w64 (head .search .next) greatestFarthest (omega arith);
+        run = countR w64 (head .search .run) greatestFarthest (omega arith);
         rises = record {
           size = asB (v .rises)
               (addB (fitB (v .fits)) (negB (addB (fitB (at-first outer .here)) (natB {k = entry .args .e} (2 ^ 32) (omega arith)))));
