@@ -4,8 +4,8 @@
 --   S ≤ L and L Q ≥ a S², or L < S and a (2 S − L) ≤ Q.
 -- For the crest u = 2 (e + o) and v = 16 e o. With the root isolated the two inequalities are
 --   a S² − L u ≤ L √v = √(L² v), and a (2 S − L) − u ≤ √v.
--- Each has the form x − y ≤ √z in whole numbers. Where x ≤ y its left side is not positive and it holds; else both
--- sides are positive, and it holds exactly when (x − y)² ≤ z.
+-- Each has the form x − y ≤ √z in whole numbers. Where x ≤ y its left side is not positive and it holds; else the left
+-- side is positive, the right side is not negative, and it holds exactly when (x − y)² ≤ z.
 use Prim.Native.Nat.{ℕ, zero, suc, _+_, _*_, _-_, _/_}
 use mathlib.Core.Bool.{Bool, cond, _||_}
 use lib.Dec.{leb}

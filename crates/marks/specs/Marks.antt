@@ -27,23 +27,29 @@ bit b test = cond test (2 ^ b) 0
 
 -- the mark of station i for a stopping distance and a decision distance. Bit 0 (S): stopping judged and lacking. Bit 1 (D):
 -- decision judged and lacking. Bit 2 (R): decision judged and lacking while stopping is judged and there. Bit 3 (s): stopping
--- not judged. Bit 4 (d): decision not judged
+-- not judged. Bit 4 (d): decision not judged. Bits 5 to 7 are 0
 unfoldable pub markOf : List ℤ → ℕ → ℕ → ℕ → ℕ
 markOf heights stopping decision i =
-    let stop = judged heights stopping i in
-    let decide = judged heights decision i in
-    let stopLacking = lacking heights stopping i in
-    let decideLacking = lacking heights decision i in
-    bit 0 (stop && stopLacking)
-    + bit 1 (decide && decideLacking)
-    + bit 2 (decide && decideLacking && (stop && not stopLacking))
-    + bit 3 (not stop)
-    + bit 4 (not decide)
+    let stoppingJudged = judged heights stopping i in
+    let decisionJudged = judged heights decision i in
+    let stoppingLacking = lacking heights stopping i in
+    let decisionLacking = lacking heights decision i in
+    bit 0 (stoppingJudged && stoppingLacking)
+    + bit 1 (decisionJudged && decisionLacking)
+    + bit 2 (decisionJudged && decisionLacking && (stoppingJudged && not stoppingLacking))
+    + bit 3 (not stoppingJudged)
+    + bit 4 (not decisionJudged)
+
+-- the distance that a speed needs to stop, and the one that it needs to decide for a purpose
+abbrev pub stoppingDistance : ℕ → ℕ
+stoppingDistance speed = valueOrZero (requiredDistance speed stoppingPurpose)
+
+abbrev pub decisionDistance : ℕ → ℕ → ℕ
+decisionDistance speed purpose = valueOrZero (requiredDistance speed purpose)
 
 -- the mark of station i for a speed and a purpose
 abbrev pub markFor : ℕ → ℕ → List ℤ → ℕ → ℕ
-markFor speed purpose heights i =
-    markOf heights (valueOrZero (requiredDistance speed stoppingPurpose)) (valueOrZero (requiredDistance speed purpose)) i
+markFor speed purpose heights i = markOf heights (stoppingDistance speed) (decisionDistance speed purpose) i
 
 -- marks from a speed, a decision purpose and heights: refused 6, 7, 19, 14; else how many bytes are written
 unfoldable pub marksAnswer : ℕ → ℕ → List ℤ → List ℕ → Answer

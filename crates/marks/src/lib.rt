@@ -14,19 +14,19 @@ use terms::Verdict;
 
 // One byte of five bits, the lowest first: S, D, R, s, d.
 fn compose(
-    lacks_stop: bool,
-    lacks_decision: bool,
+    stopping_lacking: bool,
+    decision_lacking: bool,
     reduced: bool,
-    no_stop: bool,
-    no_decision: bool,
+    stopping_unjudged: bool,
+    decision_unjudged: bool,
 ) -> u8
-    ensures { λ r. ⌜ r ≡ bit 0 «lacks_stop» + bit 1 «lacks_decision» + bit 2 reduced + bit 3 «no_stop» + bit 4 «no_decision» ⌝ }
+    ensures { λ r. ⌜ r ≡ bit 0 «stopping_lacking» + bit 1 «decision_lacking» + bit 2 reduced + bit 3 «stopping_unjudged» + bit 4 «decision_unjudged» ⌝ }
 {
-    (lacks_stop as u8) << 0
-        | (lacks_decision as u8) << 1
+    (stopping_lacking as u8) << 0
+        | (decision_lacking as u8) << 1
         | (reduced as u8) << 2
-        | (no_stop as u8) << 3
-        | (no_decision as u8) << 4
+        | (stopping_unjudged as u8) << 3
+        | (decision_unjudged as u8) << 4
 }
 
 // The mark of station `i`. One search, up to the larger distance, serves both; a station that is judged for neither needs
@@ -37,14 +37,14 @@ fn mark_of(heights: &[i32], stopping: u32, decision: u32, i: usize) -> u8
     ensures { λ r. ⌜ r ≡ markOf (now (heights .entry)) stopping decision i ⌝ }
 {
     let last = heights.len() - 1;
-    let stop = i + stopping as usize <= last;
-    let decide = i + decision as usize <= last;
+    let stopping_judged = i + stopping as usize <= last;
+    let decision_judged = i + decision as usize <= last;
     let larger = if stopping < decision {
         decision
     } else {
         stopping
     };
-    let s = if stop | decide {
+    let s = if stopping_judged | decision_judged {
         terms::value_or_zero(sight::sight(
             heights,
             i as u32,
@@ -55,17 +55,23 @@ fn mark_of(heights: &[i32], stopping: u32, decision: u32, i: usize) -> u8
     } else {
         0
     };
-    let lacks_stop = stop & (s < stopping);
-    let lacks_decision = decide & (s < decision);
-    let reduced = lacks_decision & stop & !lacks_stop;
-    compose(lacks_stop, lacks_decision, reduced, !stop, !decide)
+    let stopping_lacking = stopping_judged & (s < stopping);
+    let decision_lacking = decision_judged & (s < decision);
+    let reduced = decision_lacking & stopping_judged & !stopping_lacking;
+    compose(
+        stopping_lacking,
+        decision_lacking,
+        reduced,
+        !stopping_judged,
+        !decision_judged,
+    )
 }
 
 // Each station's mark, into the place of the station, from the last station back.
 fn fill_marks(heights: &[i32], stopping: u32, decision: u32, list: &mut [u8])
     requires { ⌜ (length (now heights) ≤ length (now list)) × (length (now heights) ≤ greatestList) ⌝ }
     requires { ⌜ (stopping ≤ greatestFarthest) × (decision ≤ greatestFarthest) ⌝ }
-    ensures { λ r. ⌜ now (list .exit) ≡ filled (markOf (now (heights .entry)) stopping decision) 0 (length (now (heights .entry))) (now (list .entry)) ⌝ }
+    ensures { λ _. ⌜ now (list .exit) ≡ filled (markOf (now (heights .entry)) stopping decision) 0 (length (now (heights .entry))) (now (list .entry)) ⌝ }
 {
     let mut i = heights.len();
     while i > 0 {
@@ -77,7 +83,7 @@ fn fill_marks(heights: &[i32], stopping: u32, decision: u32, list: &mut [u8])
 // Marks, from a speed, a decision purpose and heights.
 pub fn marks(speed: u32, purpose: u32, heights: &[i32], list: &mut [u8]) -> Answer
     ensures answer { λ r. ⌜ r ≡ marksAnswer speed purpose (now (heights .entry)) (now (list .entry)) ⌝ }
-    ensures list { λ r. ⌜ now (list .exit) ≡ marksList speed purpose (now (heights .entry)) (now (list .entry)) ⌝ }
+    ensures list { λ _. ⌜ now (list .exit) ≡ marksList speed purpose (now (heights .entry)) (now (list .entry)) ⌝ }
 {
     if terms::outside(terms::LEAST_SPEED, terms::GREATEST_SPEED, speed) {
         return Answer::Refused(terms::SPEED_REFUSED);
@@ -100,7 +106,7 @@ pub fn marks(speed: u32, purpose: u32, heights: &[i32], list: &mut [u8]) -> Answ
 // Marks the stations of an accepted road, by its own heights, speed and purpose.
 fn mark_road(road: Road, list: &mut [u8])
     requires { ⌜ (roadVerdict road ≡ Accepted) × (road .length + 1 ≤ length (now list)) ⌝ }
-    ensures { λ r. ⌜ now (list .exit) ≡ filled (markFor (road .speed) (road .purpose) (ownHeights road)) 0 (road .length + 1) (now (list .entry)) ⌝ }
+    ensures { λ _. ⌜ now (list .exit) ≡ filled (markFor (road .speed) (road .purpose) (ownHeights road)) 0 (road .length + 1) (now (list .entry)) ⌝ }
 {
     let mut heights = [0i32; terms::GREATEST_LIST];
     road::heights(road, &mut heights);
@@ -116,7 +122,7 @@ fn mark_road(road: Road, list: &mut [u8])
 // Marks a road file.
 pub fn mark_road_file(file: &[u8], list: &mut [u8]) -> Answer
     ensures answer { λ r. ⌜ r ≡ markFileAnswer (now (file .entry)) (now (list .entry)) ⌝ }
-    ensures list { λ r. ⌜ now (list .exit) ≡ markFileList (now (file .entry)) (now (list .entry)) ⌝ }
+    ensures list { λ _. ⌜ now (list .exit) ≡ markFileList (now (file .entry)) (now (list .entry)) ⌝ }
 {
     let read = file::read(file);
     let verdict = read.verdict;

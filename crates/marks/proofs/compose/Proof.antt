@@ -22,7 +22,7 @@ cast-result-5 c = search needs
 returns : tie.Need-returns
 returns c =
     let a = c .args in
-    joined-sum (a .lacks-stop) (a .lacks-decision) (a .reduced) (a .no-stop) (a .no-decision)
+    joined-sum (a .stopping-lacking) (a .decision-lacking) (a .reduced) (a .stopping-unjudged) (a .decision-unjudged)
 
 pub compose-spec : {M : Type 1} → statement M
 compose-spec =

@@ -1,6 +1,6 @@
 -- `fill_marks` meets its contract. The invariant: the places from `i` on are filled, the list is as long as it was. The
 -- measure is the number of stations left.
-use mathlib.Core.Path.{_≡_, refl, _∙_}
+use mathlib.Core.Path.{_≡_, refl}
 use Prim.Native.Nat.{_+_, _-_, _≤_}
 use native.Mathlib.Omega.{arith}
 use borrow.Author.Needs.{needs}

@@ -18,11 +18,11 @@ use Rattle.marks.proofs.mark_of.Tie as tie
 sub-last : tie.Need-sub-last
 sub-last c = search needs
 
-add-stop : tie.Need-add-stop
-add-stop c = search needs
+add-stopping-judged : tie.Need-add-stopping-judged
+add-stopping-judged c = search needs
 
-add-decide : tie.Need-add-decide
-add-decide c = search needs
+add-decision-judged : tie.Need-add-decision-judged
+add-decision-judged c = search needs
 
 cast-sight : tie.Need-cast-sight
 cast-sight c = search needs
@@ -60,8 +60,8 @@ mark-of-spec =
     tie.close
     (tie.spec
     sub-last
-    add-stop
-    add-decide
+    add-stopping-judged
+    add-decision-judged
     cast-sight
     sight-requires
     value-or-zero-requires

@@ -1,6 +1,6 @@
 -- `marks` meets its contract: each `return` rewrites the answer's definition by the tests that led to it, and the list's
 -- definition follows the answer.
-use mathlib.Core.Path.{_≡_, refl, sym, ap, _∙_}
+use mathlib.Core.Path.{_≡_, sym, ap, _∙_}
 use mathlib.Core.Bool.{false}
 use mathlib.Core.List.{List}
 use Prim.Native.Nat.{ℕ, _≤_}
@@ -13,10 +13,10 @@ use Rattle.whole.specs.Fill.{filled}
 use Rattle.terms.specs.Answers.{outside, listOutside, valueOrZero}
 use Rattle.terms.specs.Limits.{leastSpeed, greatestSpeed, firstDecision, lastPurpose, greatestList, greatestFarthest}
 use Rattle.terms.specs.declared.Answer.the-variants.{Number, Refused}
-use Rattle.terms.proofs.Laws.{value-at-most, not-outside-in}
+use Rattle.terms.proofs.Laws.{value-at-most, not-outside-in, written-refused, written-number}
 use Rattle.distance.specs.Distance.{requiredDistance}
 use Rattle.distance.proofs.Laws.{required-at-most}
-use Rattle.marks.specs.Marks.{markFor, marksAnswer, marksList}
+use Rattle.marks.specs.Marks.{stoppingDistance, decisionDistance, markFor, marksAnswer, marksList}
 use Rattle.marks.proofs.marks.Statement.{statement}
 use Rattle.marks.proofs.marks.Tie as tie
 
@@ -25,13 +25,13 @@ module _ (speed purpose : ℕ) (heights : List ℤ) (marks : List ℕ) where
   refused : (k : ℕ) → marksAnswer speed purpose heights marks ≡ Refused k →
       (Refused k ≡ marksAnswer speed purpose heights marks) × (marks ≡ marksList speed purpose heights marks)
   unfolding marksList
-  refused k q = (sym q, rw q refl)
+  refused = written-refused (markFor speed purpose heights) (marksAnswer speed purpose heights marks) marks
 
   answered : (n : ℕ) (out : List ℕ) → marksAnswer speed purpose heights marks ≡ Number n →
       out ≡ filled (markFor speed purpose heights) 0 n marks →
       (Number n ≡ marksAnswer speed purpose heights marks) × (out ≡ marksList speed purpose heights marks)
   unfolding marksList
-  answered n out q f = (sym q, rw q f)
+  answered = written-number (markFor speed purpose heights) (marksAnswer speed purpose heights marks) marks
 
 -- ---- the refusals that a place has behind it
 speed-in : (c : tie.Else1) → outside leastSpeed greatestSpeed (c .before .before .before .args .speed) ≡ false
@@ -96,12 +96,12 @@ list-small c = not-outside-in 1 greatestList _ (list-in (c .before)) .1
 
 stopping-is : (c : tie.After-value-or-zero) →
     let a = c .before .before .before .before .before .before .before .before .before .before .args in
-    c .value-or-zero .result ≡ valueOrZero (requiredDistance (a .speed) 0)
+    c .value-or-zero .result ≡ stoppingDistance (a .speed)
 stopping-is c = c .value-or-zero .ensures ∙ ap valueOrZero (c .before .required-distance .ensures)
 
 decision-is : (c : tie.After-value-or-zero2) →
     let a = c .before .before .before .before .before .before .before .before .before .before .before .before .args in
-    c .value-or-zero2 .result ≡ valueOrZero (requiredDistance (a .speed) (a .purpose))
+    c .value-or-zero2 .result ≡ decisionDistance (a .speed) (a .purpose)
 decision-is c = c .value-or-zero2 .ensures ∙ ap valueOrZero (c .before .required-distance2 .ensures)
 
 metres-small : (speed purpose : ℕ) → valueOrZero (requiredDistance speed purpose) ≤ greatestFarthest
