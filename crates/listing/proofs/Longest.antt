@@ -9,19 +9,18 @@ use native.Mathlib.Omega.{arith}
 use lib.Dec.{ltb}
 use lib.ListN.{length, getD, replicate, length-append, length-replicate}
 use Rattle.whole.proofs.Fill.{filled-length}
-use Rattle.terms.specs.Answers.{written, valueOrZero}
-use Rattle.terms.specs.Limits.{stoppingPurpose, lastBit, greatestList, greatestListing}
+use Rattle.terms.specs.Answers.{written}
+use Rattle.terms.specs.Limits.{lastBit, greatestList, greatestListing}
 use Rattle.terms.specs.Refusals.{roomRefused}
 use Rattle.terms.specs.declared.Answer.{Answer}
 use Rattle.terms.specs.declared.Answer.the-variants.{Number, Refused}
 use Rattle.terms.specs.declared.Verdict.{Verdict}
 use Rattle.terms.specs.declared.Verdict.the-variants.{Accepted, Fault}
 use Rattle.road.proofs.Accepted.{accepted-road}
-use Rattle.distance.specs.Distance.{requiredDistance}
 use Rattle.file.specs.File.{roadIn, version}
 use Rattle.file.specs.Operations.{readVerdict}
 use Rattle.file.proofs.Sound.{accepted-file}
-use Rattle.marks.specs.Marks.{markFor}
+use Rattle.marks.specs.Marks.{stoppingDistance, decisionDistance, markFor}
 use Rattle.marks.specs.RoadFile.{ownHeights, markFileAnswer, markFileList}
 use Rattle.zones.specs.Zones.{zoneEnds, zoneCount}
 use Rattle.zones.proofs.Laws.{zones-at-most}
@@ -121,7 +120,7 @@ lines-at-most : (speed purpose : ℕ) (marks : List ℕ) → speed < 1000 → le
     length (linesFor speed purpose marks) ≤ greatestListing
 unfolding linesFor
 lines-at-most speed purpose marks s h =
-    let first = first-at-most speed (valueOrZero (requiredDistance speed stoppingPurpose)) (valueOrZero (requiredDistance speed purpose)) s in
+    let first = first-at-most speed (stoppingDistance speed) (decisionDistance speed purpose) s in
     simp length-append (omega (arith, zones-text-at-most marks h))
 
 pub listing-at-most : (file : List ℕ) → length (listing file) ≤ greatestListing

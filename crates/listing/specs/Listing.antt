@@ -4,16 +4,16 @@ use mathlib.Core.Bool.{cond}
 use mathlib.Core.List.{List, [], _∷_, _++_}
 use lib.Dec.{ltb}
 use lib.ListN.{length, replicate, getD}
-use Rattle.terms.specs.Answers.{refuse, written, valueOrZero}
-use Rattle.terms.specs.Limits.{stoppingPurpose, lastBit}
+use Rattle.terms.specs.Answers.{refuse, written}
+use Rattle.terms.specs.Limits.{lastBit}
 use Rattle.terms.specs.Refusals.{roomRefused}
 use Rattle.terms.specs.declared.Answer.{Answer}
 use Rattle.terms.specs.declared.Answer.the-variants.{Number}
 use Rattle.terms.specs.declared.Verdict.{Verdict}
 use Rattle.terms.specs.declared.Verdict.the-variants.{Accepted, Fault}
-use Rattle.distance.specs.Distance.{requiredDistance}
 use Rattle.file.specs.File.{roadIn, version}
 use Rattle.file.specs.Operations.{readVerdict}
+use Rattle.marks.specs.Marks.{stoppingDistance, decisionDistance}
 use Rattle.marks.specs.RoadFile.{markFileList}
 use Rattle.zones.specs.Zones.{zoneEnds, zoneCount}
 
@@ -80,7 +80,7 @@ ownMarks file = markFileList file (replicate (roadIn file .length + 1) 0)
 -- the text for a speed, a purpose and marks
 unfoldable pub linesFor : ℕ → ℕ → List ℕ → List ℕ
 linesFor speed purpose marks =
-    firstLine speed (valueOrZero (requiredDistance speed stoppingPurpose)) (valueOrZero (requiredDistance speed purpose)) ++ zonesText marks
+    firstLine speed (stoppingDistance speed) (decisionDistance speed purpose) ++ zonesText marks
 
 -- by reading's verdict: the road's text, or the line of the refusal
 abbrev pub textFor : Verdict → List ℕ → List ℕ

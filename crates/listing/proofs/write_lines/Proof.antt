@@ -2,8 +2,8 @@
 use mathlib.Core.Path.{_≡_, ap, _∙_}
 use borrow.Author.Needs.{needs}
 use native.Mathlib.Omega.{arith}
-use Rattle.distance.specs.Distance.{requiredDistance}
 use Rattle.terms.specs.Answers.{valueOrZero}
+use Rattle.marks.specs.Marks.{stoppingDistance, decisionDistance}
 use Rattle.listing.specs.Listing.{firstLine, linesFor}
 use Rattle.listing.specs.Writing.{Wrote}
 use Rattle.listing.proofs.Writing.{wrote-join, room-first, room-next}
@@ -12,18 +12,18 @@ use Rattle.listing.proofs.write_lines.Tie as tie
 
 -- the distances
 stopping-is : (c : tie.After-value-or-zero) →
-    c .value-or-zero .result ≡ valueOrZero (requiredDistance (c .before .before .before .before .args .speed) 0)
+    c .value-or-zero .result ≡ stoppingDistance (c .before .before .before .before .args .speed)
 stopping-is c = c .value-or-zero .ensures ∙ ap valueOrZero (c .before .required-distance .ensures)
 
 decision-is : (c : tie.After-value-or-zero2) →
     let a = c .before .before .before .before .before .before .args in
-    c .value-or-zero2 .result ≡ valueOrZero (requiredDistance (a .speed) (a .purpose))
+    c .value-or-zero2 .result ≡ decisionDistance (a .speed) (a .purpose)
 decision-is c = c .value-or-zero2 .ensures ∙ ap valueOrZero (c .before .required-distance2 .ensures)
 
 -- the first line was written
 first : (c : tie.After-write-first-line) →
     let a = c .before .before .before .before .before .before .before .before .args in
-    Wrote (firstLine (a .speed) (valueOrZero (requiredDistance (a .speed) 0)) (valueOrZero (requiredDistance (a .speed) (a .purpose)))) 0
+    Wrote (firstLine (a .speed) (stoppingDistance (a .speed)) (decisionDistance (a .speed) (a .purpose))) 0
     (c .write-first-line .result) (a .text .now) (c .write-first-line .last .1 .1 .1 .0)
 first c =
     let m = c .before .before in
