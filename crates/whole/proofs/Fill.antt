@@ -1,4 +1,5 @@
--- Laws of `filled`: its length, each of its places, how it grows by one store at its end or its front, and what it depends on.
+-- Laws of `filled`: its length, each of its filled places, how it grows by one store at its end or its front, and what it
+-- depends on.
 use mathlib.Core.Path.{_≡_, refl, sym, ap, _∙_}
 use mathlib.Core.List.{List, [], _∷_}
 use mathlib.Core.Logic.{⊎-elim}
@@ -24,19 +25,7 @@ module _ {A : Type 0} (f : ℕ → A) (i : ℕ) where
   filled-length zero xs = refl
   filled-length (suc n) xs = length-set (filled f i n xs) (i + n) (f (i + n)) ∙ filled-length n xs
 
-  -- ---- each place
-  pub filled-before : (n : ℕ) (xs : List A) (k : ℕ) (z : A) → k < i → getD (filled f i n xs) k z ≡ getD xs k z
-  unfolding filled
-  filled-before zero xs k z l = refl
-  filled-before (suc n) xs k z l =
-      getD-set-other (filled f i n xs) (i + n) k (f (i + n)) z (λ e. omega arith) ∙ filled-before n xs k z l
-
-  pub filled-beyond : (n : ℕ) (xs : List A) (k : ℕ) (z : A) → i + n ≤ k → getD (filled f i n xs) k z ≡ getD xs k z
-  unfolding filled
-  filled-beyond zero xs k z l = refl
-  filled-beyond (suc n) xs k z l =
-      getD-set-other (filled f i n xs) (i + n) k (f (i + n)) z (λ e. omega arith) ∙ filled-beyond n xs k z (omega arith)
-
+  -- ---- each filled place
   pub filled-at : (n : ℕ) (xs : List A) (k : ℕ) (z : A) → i ≤ k → k < i + n → k < length xs →
       getD (filled f i n xs) k z ≡ f k
   unfolding filled

@@ -6,7 +6,7 @@ use Prim.Native.Nat.{ℕ, zero, suc, _+_, _*_, _/_, _≤_, _<_}
 use native.Mathlib.Omega.{arith}
 use native.Mathlib.Nat.{div-le-self, div-mul-le-self, lt-mul-div-succ}
 use lib.IntN.{ℤ, pos, negsuc, negℤ, natAbs, _+ℤ_, _-ℤ_, _*ℤ_}
-use lib.Signed.{mag, quotZ, _≤ℤ_, _<ℤ_, ≤ℤ-refl}
+use lib.Signed.{mag, quotZ, _≤ℤ_, _<ℤ_}
 use mir.Syntax.{Width}
 use mir.Val.{SFits, ofZ}
 use mir.ValLaws.{sfits-le}
@@ -74,13 +74,7 @@ floor-plus w n {d} l =
     (floor-is record { num = w *ℤ pos d +ℤ n; den = d } l)
     (floor-shift w n _ d (floor-is record { num = n; den = d } l))
 
--- a fraction that is whole
-pub floor-multiple : (w : ℤ) {d : ℕ} → 0 < d → floorDiv (w *ℤ pos d) (pos d) ≡ w
-floor-multiple w {d} l =
-    let v = var w in
-    floor-unique (floor-is record { num = w *ℤ pos d; den = d } l)
-    record { below = ≤ℤ-refl _; above = lt-by (search reps) (search reps) (omega arith) }
-
+-- a whole number as a fraction
 pub floor-whole : (z : ℤ) → floor (whole z) ≡ z
 floor-whole z =
     let v = var z in

@@ -1,8 +1,8 @@
 -- Whole numbers by the naturals, which is what `omega` reads.
 -- A whole number is a difference p − n of naturals, and `Is z` holds such a pair. The pair of a sum, an opposite or a
 -- product is made of those of its parts: `search reps` builds it for an expression whose variables have theirs by
--- `let x = var z in`. `le-by`, `lt-by` and `eq-by` prove an order or an equation from that of the pairs; `le-to`, `lt-to`
--- and `eq-to` lead back.
+-- `let x = var z in`. `le-by`, `lt-by` and `eq-by` prove an order or an equation from that of the pairs; `le-to` and `lt-to`
+-- lead an order back.
 use mathlib.Core.Path.{_≡_, refl, ap}
 use mathlib.Core.Bool.{Bool, true, false, not, cond}
 use Prim.Native.Nat.{ℕ, zero, suc, _+_, _*_, _-_, _≤_, _<_}
@@ -156,6 +156,3 @@ le-to {x} {y} h a b = omega (arith, parts-le x y (h .le), a .ok, b .ok)
 
 pub lt-to : {x y : ℤ} → x <ℤ y → (a : Is x) (b : Is y) → a .p + b .n < b .p + a .n
 lt-to {x} {y} h a b = omega (arith, parts-lt x y (h .lt), a .ok, b .ok)
-
-pub eq-to : {x y : ℤ} → x ≡ y → (a : Is x) (b : Is y) → a .p + b .n ≡ b .p + a .n
-eq-to {x} {y} h a b = omega (arith, ap up h, ap dn h, a .ok, b .ok)

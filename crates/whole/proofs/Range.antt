@@ -137,9 +137,6 @@ readR w {m} {z} u = record {
       toZ-ofZ (fits-by {w = w} (u .size) (p .0)) ∙ u .same (p .1);
 }
 
-abbrev pub asR : {r m z : ℤ} → r ≡ m → Reads m z → Reads r z
-asR e u = record { size = asB e (u .size); good = u .good; same = λ t. e ∙ u .same t }
-
 abbrev pub leafR : (w : Width) {z : ℤ} → SFits w z → Reads (toZ w (ofZ w z)) z
 leafR w f = record { size = leafB w f; good = true; same = λ t. toZ-ofZ f }
 
@@ -166,8 +163,5 @@ ltR u v = record {
   good = u .good && v .good;
   same = λ t. let p = and-yes (u .good) (v .good) t in ap₂ ltZ (u .same (p .0)) (v .same (p .1));
 }
-
-pub test-by : {p q : Bool} (u : Tests p q) → T (u .good) → p ≡ q
-test-by u t = u .same t
 
 pub ruleset reads = (addR, negR, mulR, leafR, readR, leR, ltR)

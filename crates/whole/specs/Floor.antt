@@ -3,7 +3,7 @@
 use Prim.Native.Nat.{ℕ, zero, suc, _/_}
 use lib.IntN.{ℤ, pos, negsuc}
 
--- num over den
+-- num over den; den is positive wherever one is used
 pub record Frac : Type 0 where
   pub num : ℤ
   pub den : ℕ
