@@ -1,6 +1,5 @@
 // The plotter: reads a road file on standard input and writes a picture of its profile, as SVG, to standard output. Every
 // coordinate that depends on the road comes from `picture`; the constants here are places on the sheet.
-ghost use mathlib.Core.Path.{_≡_};
 ghost use Prim.Native.Nat.{_*_, _≤_};
 ghost use lib.ListN.{length};
 ghost use Rattle.terms.specs.Limits.{greatestRoad, greatestList};
@@ -11,7 +10,7 @@ use road::Road;
 use terms::Verdict;
 
 // One byte more than the longest road file has: a longer file keeps a wrong length.
-const FILE_BYTES: usize = 209;
+const FILE_BYTES: usize = terms::GREATEST_FILE + 1;
 
 // Places for the first and last stations of the zones of a letter.
 const ENDS: usize = terms::GREATEST_LIST + 1;
@@ -23,6 +22,9 @@ const HEIGHT_STEPS: u32 = 10;
 
 // No lifted height is higher than this.
 const HIGHEST: u64 = 6000000000;
+
+// The byte in whose place a number is written: @.
+const PLACE: u8 = 64;
 
 // What a picture is drawn by: the road's length, the h-units between its lowest and highest heights, and the height at the
 // plot's lower edge.
@@ -38,56 +40,45 @@ fn text(words: &[u8]) {
     io::write_all(STDOUT_FILENO, words);
 }
 
-// Words and a number behind them.
-fn number(words: &[u8], n: u64) {
-    text(words);
-    io::print_decimal(STDOUT_FILENO, n);
-}
-
-// Two numbers, each behind its words.
-fn numbers(words: &[u8], n: u64, between: &[u8], m: u64) {
-    number(words, n);
-    number(between, m);
+// Words with the next number in each place @; nothing where the numbers are used up.
+fn draw(words: &[u8], numbers: &[u64]) {
+    let mut from: usize = 0;
+    let mut used: usize = 0;
+    for at in 0..words.len() {
+        if words[at] == PLACE {
+            text(&words[from..at]);
+            from = at + 1;
+            if used < numbers.len() {
+                io::print_decimal(STDOUT_FILENO, numbers[used]);
+                used += 1;
+            }
+        }
+    }
+    text(&words[from..]);
 }
 
 // ---- the view
-// The lowest height.
-fn lowest(heights: &[i32]) -> u64
-    ensures { λ r. ⌜ r ≤ 6000000000 ⌝ }
+// How a profile is drawn, by its lowest and highest heights.
+fn view_of(heights: &[i32], length: u32) -> View
+    ensures { λ r. ⌜ r .foot ≤ 6000000000 ⌝ }
 {
     let mut low = HIGHEST;
+    let mut high: u64 = 0;
     for i in 0..heights.len() {
         let height = picture::lift(heights[i]);
         if height < low {
             low = height;
         }
-    }
-    low
-}
-
-// The highest height.
-fn highest(heights: &[i32]) -> u64 {
-    let mut high: u64 = 0;
-    for i in 0..heights.len() {
-        let height = picture::lift(heights[i]);
         if high < height {
             high = height;
         }
     }
-    high
-}
-
-// How a profile is drawn.
-fn view_of(heights: &[i32], length: u32) -> View
-    ensures { λ r. ⌜ r .foot ≤ 6000000000 ⌝ }
-{
-    let low = lowest(heights);
-    let high = highest(heights);
     let range = if high < low { 0 } else { high - low };
+    let foot = picture::foot(low, length, range);
     View {
         length,
         range,
-        foot: picture::foot(low, length, range),
+        foot,
     }
 }
 
@@ -124,34 +115,29 @@ text{font-family:sans-serif;font-size:1300px;fill:#333}
     );
 }
 
-// The title: the road's length.
-fn title(length: u64) {
-    number(b"<title>Sight along the road, ", length);
-    number(
-        b" m</title>\n<text class=\"title\" x=\"1500\" y=\"4200\">Sight along the road, ",
-        length,
-    );
-    text(b" m</text>\n");
-}
-
-// The line below it: the speed, the distances that it needs, and the exaggeration.
-fn subtitle(speed: u32, purpose: u32, exaggeration: u32) {
-    let stopping = terms::value_or_zero(distance::required_distance(speed, 0));
+// The title, and below it the speed, the distances that it needs, and the exaggeration.
+fn headings(view: View, speed: u32, purpose: u32) {
+    let length = view.length as u64;
+    let stopping = terms::value_or_zero(distance::required_distance(speed, terms::STOPPING));
     let decision = terms::value_or_zero(distance::required_distance(speed, purpose));
-    number(b"<text class=\"sub\" x=\"1500\" y=\"7000\">", speed as u64);
-    numbers(
-        b" km/h: stopping sight ",
-        stopping as u64,
-        b" m, decision sight ",
-        decision as u64,
+    let exaggeration = picture::exaggeration(view.length, view.range);
+    draw(
+        b"<title>Sight along the road, @ m</title>
+<text class=\"title\" x=\"1500\" y=\"4200\">Sight along the road, @ m</text>
+",
+        &[length, length],
     );
-    numbers(
-        b" m (purpose ",
-        purpose as u64,
-        b"); sight in the direction of rising stations &#8594;; vertical exaggeration <tspan class=\"letter\">",
-        exaggeration as u64,
+    draw(
+        b"<text class=\"sub\" x=\"1500\" y=\"7000\">@ km/h: stopping sight @ m, decision sight @ m (purpose @); \
+sight in the direction of rising stations &#8594;; vertical exaggeration <tspan class=\"letter\">@ : 1</tspan></text>\n",
+        &[
+            speed as u64,
+            stopping as u64,
+            decision as u64,
+            purpose as u64,
+            exaggeration as u64,
+        ],
     );
-    text(b" : 1</tspan></text>\n");
 }
 
 // ---- the profile
@@ -160,8 +146,9 @@ fn points(view: View, heights: &[i32])
     requires { ⌜ length (now heights) ≤ greatestList ⌝ }
 {
     for i in 0..heights.len() {
-        number(b" ", x_of(view, i as u32));
-        number(b",", y_of(view, picture::lift(heights[i])));
+        let x = x_of(view, i as u32);
+        let y = y_of(view, picture::lift(heights[i]));
+        draw(b" @,@", &[x, y]);
     }
 }
 
@@ -190,15 +177,6 @@ fn station(end: u16) -> u32
     end as u32
 }
 
-// A zone's rectangle.
-fn bar(view: View, first: u32, last: u32, top: u64, height: u64) {
-    let left = picture::zone_left(first, view.length);
-    let width = picture::zone_width(first, last, view.length);
-    numbers(b"<rect x=\"", left, b"\" y=\"", top);
-    numbers(b"\" width=\"", width, b"\" height=\"", height);
-    text(b"\"/>\n");
-}
-
 // A rectangle for each zone.
 fn bars(view: View, ends: &[u16], count: usize, top: u64, height: u64)
     requires { ⌜ 2 * count ≤ length (now ends) ⌝ }
@@ -206,15 +184,22 @@ fn bars(view: View, ends: &[u16], count: usize, top: u64, height: u64)
     for k in 0..count {
         let first = station(ends[2 * k]);
         let last = station(ends[2 * k + 1]);
-        bar(view, first, last, top, height);
+        let left = picture::zone_left(first, view.length);
+        let width = picture::zone_width(first, last, view.length);
+        draw(
+            b"<rect x=\"@\" y=\"@\" width=\"@\" height=\"@\"/>\n",
+            &[left, top, width, height],
+        );
     }
 }
 
-// The plot's whole height over each zone of a letter.
-fn columns(view: View, marks: &[u8], bit: u32) {
+// A group that covers the plot's whole height over each zone of a letter.
+fn columns(view: View, marks: &[u8], bit: u32, open: &[u8], close: &[u8]) {
     let mut ends = [0u16; ENDS];
     let count = find_zones(marks, bit, &mut ends);
+    text(open);
     bars(view, &ends, count, picture::TOP, picture::HEIGHT);
+    text(close);
 }
 
 // The part of the plot before the stations that are not judged for stopping.
@@ -226,30 +211,24 @@ fn judged(view: View, marks: &[u8]) {
     } else {
         station(ends[0])
     };
-    number(
-        b"<clipPath id=\"judged\"><path d=\"M0 0H",
-        picture::zone_left(end, view.length),
+    draw(
+        b"<clipPath id=\"judged\"><path d=\"M0 0H@V90000H0Z\"/></clipPath>\n",
+        &[picture::zone_left(end, view.length)],
     );
-    text(b"V90000H0Z\"/></clipPath>\n");
-}
-
-// The part of the plot over the zones of a letter, by its name.
-fn clip(view: View, marks: &[u8], bit: u32, name: &[u8]) {
-    text(b"<clipPath id=\"");
-    text(name);
-    text(b"\">\n");
-    columns(view, marks, bit);
-    text(b"</clipPath>\n");
 }
 
 // The road: dark where it is judged, dashed where it is not, and thick along the zones S and R.
 fn road_line(view: View, marks: &[u8]) {
     judged(view, marks);
-    clip(view, marks, 0, b"S");
-    clip(view, marks, 2, b"R");
-    clip(view, marks, 3, b"ns");
-    text(
-        b"<use href=\"#profile\" class=\"road ns\" clip-path=\"url(#ns)\"/>
+    columns(view, marks, 0, b"<clipPath id=\"S\">\n", b"</clipPath>\n");
+    columns(view, marks, 2, b"<clipPath id=\"R\">\n", b"</clipPath>\n");
+    columns(
+        view,
+        marks,
+        3,
+        b"<clipPath id=\"ns\">\n",
+        b"</clipPath>
+<use href=\"#profile\" class=\"road ns\" clip-path=\"url(#ns)\"/>
 <use href=\"#profile\" class=\"road\" clip-path=\"url(#judged)\"/>
 <use href=\"#profile\" class=\"road R\" clip-path=\"url(#R)\"/>
 <use href=\"#profile\" class=\"road S\" clip-path=\"url(#S)\"/>
@@ -261,14 +240,10 @@ fn road_line(view: View, marks: &[u8]) {
 // A line at a station, through the plot and the strips, and its number.
 fn station_tick(view: View, station: u32) {
     let x = x_of(view, station);
-    numbers(b"<path class=\"grid\" d=\"M", x, b" 14000V62000M", x);
-    numbers(
-        b" 66800V88600\"/><text class=\"middle\" x=\"",
-        x,
-        b"\" y=\"64000\">",
-        station as u64,
+    draw(
+        b"<path class=\"grid\" d=\"M@ 14000V62000M@ 66800V88600\"/><text class=\"middle\" x=\"@\" y=\"64000\">@</text>\n",
+        &[x, x, x, station as u64],
     );
-    text(b"</text>\n");
 }
 
 // The stations in round steps, and the last one where there is room for its number.
@@ -296,40 +271,30 @@ fn decimals(rest: u64, step: u64) {
         if 10 * unit <= step {
             return;
         }
-        number(b"", rest / unit % 10);
+        draw(b"@", &[rest / unit % 10]);
         unit /= 10;
     }
 }
 
-// A height in metres, with its sign.
-fn metres(height: u64, step: u64) {
-    if height < picture::ZERO_HEIGHT {
-        text(b"&#8722;");
-    }
+// A line at a height, and the height in metres, with its sign.
+fn height_tick(view: View, height: u64, step: u64) {
+    let y = y_of(view, height);
+    draw(
+        b"<path class=\"grid\" d=\"M22000 @H150000\"/><text class=\"height\" x=\"21200\" dy=\"450\" y=\"@\">",
+        &[y, y],
+    );
     let size = if height < picture::ZERO_HEIGHT {
+        text(b"&#8722;");
         picture::ZERO_HEIGHT - height
     } else {
         height - picture::ZERO_HEIGHT
     };
-    number(b"", size / 10000);
+    draw(b"@", &[size / 10000]);
     decimals(size % 10000, step);
-}
-
-// A line at a height, and the height.
-fn height_tick(view: View, height: u64, step: u64) {
-    let y = y_of(view, height);
-    numbers(
-        b"<path class=\"grid\" d=\"M22000 ",
-        y,
-        b"H150000\"/><text class=\"height\" x=\"21200\" dy=\"450\" y=\"",
-        y,
-    );
-    text(b"\">");
-    metres(height, step);
     text(b"</text>\n");
 }
 
-// The heights in round steps, from the plot's lower edge to its upper one.
+// The heights in round steps, from the plot's lower edge to its upper one, and the plot's frame.
 fn height_axis(view: View)
     requires { ⌜ view .foot ≤ 6000000000 ⌝ }
 {
@@ -345,9 +310,10 @@ fn height_axis(view: View)
         }
     }
     text(
-        b"<text class=\"middle\" transform=\"translate(15200 38000) rotate(-90)\">height, m</text>\n",
+        b"<text class=\"middle\" transform=\"translate(15200 38000) rotate(-90)\">height, m</text>
+<rect class=\"frame\" x=\"22000\" y=\"14000\" width=\"128000\" height=\"48000\"/>
+",
     );
-    text(b"<rect class=\"frame\" x=\"22000\" y=\"14000\" width=\"128000\" height=\"48000\"/>\n");
 }
 
 // ---- the curves
@@ -362,77 +328,49 @@ fn on_road(station: u32) -> u32
     }
 }
 
-// Where a curve begins.
-fn begin_of(c: Curve) -> u32 {
-    let half = (c.length / 2) as u32;
-    if c.pvi < half { 0 } else { c.pvi - half }
-}
-
-// Where a curve ends.
-fn end_of(c: Curve) -> u32 {
-    on_road(c.pvi) + (c.length / 2) as u32
-}
-
-// What the shapes mean.
-fn key() {
-    text(
-        b"<path class=\"crest\" d=\"M1500 11700Q2500 9700 3500 11700Z\"/><text x=\"4000\" y=\"11650\">crest</text>
-<path class=\"sag\" d=\"M8300 10700Q9300 12700 10300 10700Z\"/><text x=\"10800\" y=\"11650\">sag</text>
-<path class=\"crest\" d=\"M14100 11700L14650 10700L15200 11700Z\"/><text x=\"15700\" y=\"11650\">break</text>
-",
-    );
-}
-
 // A break in grade: a triangle, on its foot at a crest and on its point in a sag.
 fn break_shape(x: u64, crest: bool) {
     if crest {
-        number(
-            b"<path class=\"crest\" d=\"M-550 0L0-1000L550 0Z\" transform=\"translate(",
-            x,
+        draw(
+            b"<path class=\"crest\" d=\"M-550 0L0-1000L550 0Z\" transform=\"translate(@ 13000)\"/>\n",
+            &[x],
         );
     } else {
-        number(
-            b"<path class=\"sag\" d=\"M-550-1000L0 0L550-1000Z\" transform=\"translate(",
-            x,
+        draw(
+            b"<path class=\"sag\" d=\"M-550-1000L0 0L550-1000Z\" transform=\"translate(@ 13000)\"/>\n",
+            &[x],
         );
     }
-    text(b" 13000)\"/>\n");
 }
 
-// An arc from one x over the middle to another: its ends on one level, and how far it is drawn up or down.
-fn arc(from: u64, middle: u64, to: u64, ends: u64, drawn: u64) {
-    numbers(b"", from, b" ", ends);
-    numbers(b"Q", middle, b" ", drawn);
-    numbers(b" ", to, b" ", ends);
-    text(b"Z\"/>\n");
-}
-
-// A curve: a filled hump over a crest, and an open bowl over a sag.
+// A curve from its begin to its end: a filled hump over a crest, and an open bowl over a sag.
 fn curve_shape(view: View, c: Curve, crest: bool) {
-    let from = x_of(view, begin_of(c));
-    let middle = x_of(view, c.pvi);
-    let to = x_of(view, end_of(c));
+    let pvi = on_road(c.pvi);
+    let half = (c.length / 2) as u32;
+    let begin = if pvi < half { 0 } else { pvi - half };
+    let from = x_of(view, begin);
+    let middle = x_of(view, pvi);
+    let to = x_of(view, pvi + half);
     if crest {
-        text(b"<path class=\"crest\" d=\"M");
-        arc(from, middle, to, 13000, 11000);
+        draw(
+            b"<path class=\"crest\" d=\"M@ 13000Q@ 11000 @ 13000Z\"/>\n",
+            &[from, middle, to],
+        );
     } else {
-        text(b"<path class=\"sag\" d=\"M");
-        arc(from, middle, to, 12000, 14000);
+        draw(
+            b"<path class=\"sag\" d=\"M@ 12000Q@ 14000 @ 12000Z\"/>\n",
+            &[from, middle, to],
+        );
     }
 }
 
-// A dotted line from above the plot down to the road.
-fn pvi_line(x: u64, y: u64) {
-    numbers(b"<path class=\"pvi\" d=\"M", x, b" 13200V", y);
-    text(b"\"/>\n");
-}
-
-// A curve's shape above the plot, and a line from its PVI down to the road.
+// A curve's shape above the plot, and a dotted line from its PVI down to the road.
 fn curve(view: View, heights: &[i32], c: Curve, crest: bool) {
     let x = x_of(view, c.pvi);
     let at = c.pvi as usize;
     if at < heights.len() {
-        pvi_line(x, y_of(view, picture::lift(heights[at])));
+        let y = y_of(view, picture::lift(heights[at]));
+        draw(b"<path class=\"pvi\" d=\"M@ 13200V@\"/>\n", &[x, y]);
     }
     if c.length == 0 {
         break_shape(x, crest);
@@ -441,11 +379,17 @@ fn curve(view: View, heights: &[i32], c: Curve, crest: bool) {
     }
 }
 
-// The curves, each a crest or a sag by the grades before and behind it. One that changes no grade is not drawn.
+// The curves, each a crest or a sag by the grades before and behind it, behind a key of their shapes. One that changes no
+// grade is not drawn.
 fn curves(view: View, road: Road, heights: &[i32]) {
     let count = road.count as usize;
     let mut grade = road.first_grade;
-    key();
+    text(
+        b"<path class=\"crest\" d=\"M1500 11700Q2500 9700 3500 11700Z\"/><text x=\"4000\" y=\"11650\">crest</text>
+<path class=\"sag\" d=\"M8300 10700Q9300 12700 10300 10700Z\"/><text x=\"10800\" y=\"11650\">sag</text>
+<path class=\"crest\" d=\"M14100 11700L14650 10700L15200 11700Z\"/><text x=\"15700\" y=\"11650\">break</text>
+",
+    );
     for k in 0..32 {
         if k < count {
             let c = road.curves[k];
@@ -458,12 +402,6 @@ fn curves(view: View, road: Road, heights: &[i32]) {
     }
 }
 
-// The number of a curve.
-fn curve_number(x: u64, k: u64) {
-    numbers(b"<text class=\"middle\" x=\"", x, b"\" y=\"11500\">", k);
-    text(b"</text>\n");
-}
-
 // The curves' numbers, above them; one that would touch the one before it is left out.
 fn curve_numbers(view: View, road: Road) {
     let count = road.count as usize;
@@ -471,52 +409,33 @@ fn curve_numbers(view: View, road: Road) {
     for k in 0..32 {
         if k < count {
             let c = road.curves[k];
-            let at = on_road(c.pvi);
-            if free <= at as u64 {
-                curve_number(x_of(view, at), k as u64 + 1);
-                free = at as u64 + view.length as u64 / 64;
+            let at = c.pvi as u64;
+            if free <= at {
+                let x = x_of(view, c.pvi);
+                draw(
+                    b"<text class=\"middle\" x=\"@\" y=\"11500\">@</text>\n",
+                    &[x, k as u64 + 1],
+                );
+                free = at + view.length as u64 / 64;
             }
         }
     }
 }
 
 // ---- the strips
-// A strip's letter and its meaning.
-fn meaning(bit: u32) {
-    match bit {
-        0 => text(b"<tspan class=\"letter\">S</tspan>&#160; stopping sight lacking"),
-        1 => text(b"<tspan class=\"letter\">D</tspan>&#160; decision sight lacking"),
-        2 => text(b"<tspan class=\"letter\">R</tspan>&#160; reduced decision zone"),
-        3 => text(b"<tspan class=\"letter\">s</tspan>&#160; stopping not judged"),
-        _ => text(b"<tspan class=\"letter\">d</tspan>&#160; decision not judged"),
-    }
-}
-
-// The group of a strip, in its letter's colour.
-fn open_strip(bit: u32) {
-    match bit {
-        0 => text(b"<g class=\"S\""),
-        1 => text(b"<g class=\"D\""),
-        2 => text(b"<g class=\"R\""),
-        3 => text(b"<g class=\"ns\""),
-        _ => text(b"<g class=\"nd\""),
-    }
-    number(b" transform=\"translate(0 ", 66500 + bit as u64 * 4400);
-    text(b")\">\n<path class=\"lane\" d=\"M22000 1500H150000V3300H22000Z\"/>\n");
-}
-
 // A zone's first and last stations, or its only one.
 fn zone_label(x: u64, first: u32, last: u32) {
-    numbers(
-        b"<text class=\"zone\" x=\"",
-        x,
-        b"\" y=\"1200\">",
-        first as u64,
-    );
     if first < last {
-        number(b"&#8211;", last as u64);
+        draw(
+            b"<text class=\"zone\" x=\"@\" y=\"1200\">@&#8211;@</text>\n",
+            &[x, first as u64, last as u64],
+        );
+    } else {
+        draw(
+            b"<text class=\"zone\" x=\"@\" y=\"1200\">@</text>\n",
+            &[x, first as u64],
+        );
     }
-    text(b"</text>\n");
 }
 
 // The zones' stations, above them; a label that would touch the one before it is left out.
@@ -537,27 +456,29 @@ fn zone_labels(view: View, ends: &[u16], count: usize)
 
 // How many zones a strip has, and its end.
 fn tally(count: usize) {
-    number(b"<text x=\"151200\" y=\"2850\">", count as u64);
     if count == 1 {
-        text(b" zone</text>\n</g>\n");
+        text(b"<text x=\"151200\" y=\"2850\">1 zone</text>\n</g>\n");
     } else {
-        text(b" zones</text>\n</g>\n");
+        draw(
+            b"<text x=\"151200\" y=\"2850\">@ zones</text>\n</g>\n",
+            &[count as u64],
+        );
     }
 }
 
-// What a strip's letter means.
-fn legend(bit: u32) {
-    text(b"<path d=\"M1500 1500H3100V3300H1500Z\"/><text x=\"3800\" y=\"2850\">");
-    meaning(bit);
-    text(b"</text>\n");
-}
-
-// A strip: what its letter means, a bar for each zone, their stations and their number.
-fn strip(view: View, marks: &[u8], bit: u32) {
+// A strip, in a group of its letter's class: the letter and its meaning, a bar for each zone, their stations and their
+// number.
+fn strip(view: View, marks: &[u8], bit: u32, class: &[u8], meaning: &[u8]) {
     let mut ends = [0u16; ENDS];
     let count = find_zones(marks, bit, &mut ends);
-    open_strip(bit);
-    legend(bit);
+    text(class);
+    draw(
+        b" transform=\"translate(0 @)\">
+<path class=\"lane\" d=\"M22000 1500H150000V3300H22000Z\"/>
+<path d=\"M1500 1500H3100V3300H1500Z\"/><text x=\"3800\" y=\"2850\"><tspan class=\"letter\">",
+        &[66500 + bit as u64 * 4400],
+    );
+    text(meaning);
     bars(view, &ends, count, 1500, 1800);
     zone_labels(view, &ends, count);
     tally(count);
@@ -565,42 +486,55 @@ fn strip(view: View, marks: &[u8], bit: u32) {
 
 // The strips of all letters.
 fn strips(view: View, marks: &[u8]) {
-    for bit in 0..terms::LAST_BIT + 1 {
-        strip(view, marks, bit);
-    }
-}
-
-// ---- the picture
-// The title and the line below it.
-fn headings(road: Road, view: View) {
-    title(view.length as u64);
-    subtitle(
-        road.speed as u32,
-        road.purpose as u32,
-        picture::exaggeration(view.length, view.range),
+    strip(
+        view,
+        marks,
+        0,
+        b"<g class=\"S\"",
+        b"S</tspan>&#160; stopping sight lacking</text>\n",
+    );
+    strip(
+        view,
+        marks,
+        1,
+        b"<g class=\"D\"",
+        b"D</tspan>&#160; decision sight lacking</text>\n",
+    );
+    strip(
+        view,
+        marks,
+        2,
+        b"<g class=\"R\"",
+        b"R</tspan>&#160; reduced decision zone</text>\n",
+    );
+    strip(
+        view,
+        marks,
+        3,
+        b"<g class=\"ns\"",
+        b"s</tspan>&#160; stopping not judged</text>\n",
+    );
+    strip(
+        view,
+        marks,
+        4,
+        b"<g class=\"nd\"",
+        b"d</tspan>&#160; decision not judged</text>\n",
     );
 }
 
-// The earth, tinted where stopping sight is lacking, and the axes.
-fn ground(view: View, heights: &[i32], marks: &[u8])
-    requires { ⌜ (length (now heights) ≤ greatestList) × (view .foot ≤ 6000000000) ⌝ }
-{
-    earth(view, heights);
-    text(b"<g class=\"tint\">\n");
-    columns(view, marks, 0);
-    text(b"</g>\n");
-    station_axis(view);
-    height_axis(view);
-}
-
-// The whole picture, from the ground up.
-fn draw(road: Road, heights: &[i32], marks: &[u8])
+// ---- the picture
+// The whole picture, from the ground up. The plot is tinted where stopping sight is lacking.
+fn sheet(road: Road, heights: &[i32], marks: &[u8])
     requires { ⌜ length (now heights) ≤ greatestList ⌝ }
 {
     let view = view_of(heights, road.length);
     open_sheet();
-    headings(road, view);
-    ground(view, heights, marks);
+    headings(view, road.speed as u32, road.purpose as u32);
+    earth(view, heights);
+    columns(view, marks, 0, b"<g class=\"tint\">\n", b"</g>\n");
+    station_axis(view);
+    height_axis(view);
     strips(view, marks);
     curves(view, road, heights);
     curve_numbers(view, road);
@@ -613,8 +547,7 @@ fn plot(file: &[u8]) {
     let read = file::read(file);
     let verdict = read.verdict;
     if let Verdict::Fault(refusal) = verdict {
-        number(b"refused ", refusal as u64);
-        text(b"\n");
+        draw(b"refused @\n", &[refusal as u64]);
         return;
     }
     let road = read.road;
@@ -623,7 +556,7 @@ fn plot(file: &[u8]) {
     let mut marks = [0u8; terms::GREATEST_LIST];
     marks::mark_road_file(file, &mut marks);
     let stations = road.length as usize + 1;
-    draw(road, &heights[..stations], &marks[..stations]);
+    sheet(road, &heights[..stations], &marks[..stations]);
 }
 
 fn main() {

@@ -5,10 +5,10 @@ use Rattle.plotter.proofs.bars.Statement.{statement}
 use Rattle.plotter.proofs.bars.Tie as tie
 
 abbrev Inv-loop : tie.InvT-loop
-Inv-loop view ends count top height k₀ k = Unit {0}
+Inv-loop view ends count top height k₀ t11 k = Unit {0}
 
 abbrev μ-loop : tie.MeasureT-loop
-μ-loop view ends count top height k₀ k = count - k
+μ-loop view ends count top height k₀ t11 k = count - k
 
 loop-holds : tie.Need-loop-holds Inv-loop μ-loop
 loop-holds c = search needs
@@ -40,8 +40,20 @@ shared-slice-read-station-2 c = search needs
 station-requires-2 : tie.Need-station-requires-2 Inv-loop μ-loop
 station-requires-2 c κs = search needs
 
-bar-requires : tie.Need-bar-requires Inv-loop μ-loop
-bar-requires c κs = search needs
+zone-left-requires : tie.Need-zone-left-requires Inv-loop μ-loop
+zone-left-requires c κs = search needs
+
+zone-width-requires : tie.Need-zone-width-requires Inv-loop μ-loop
+zone-width-requires c κs = search needs
+
+slice-aggregate-draw : tie.Need-slice-aggregate-draw Inv-loop μ-loop
+slice-aggregate-draw c = search needs
+
+slice-aggregate-draw-2 : tie.Need-slice-aggregate-draw-2 Inv-loop μ-loop
+slice-aggregate-draw-2 c = search needs
+
+draw-requires : tie.Need-draw-requires Inv-loop μ-loop
+draw-requires c κs = search needs
 
 add-k : tie.Need-add-k Inv-loop μ-loop
 add-k c = search needs
@@ -71,7 +83,11 @@ bars-spec =
     mul-station-4
     shared-slice-read-station-2
     station-requires-2
-    bar-requires
+    zone-left-requires
+    zone-width-requires
+    slice-aggregate-draw
+    slice-aggregate-draw-2
+    draw-requires
     add-k
     loop-less
     loop-again

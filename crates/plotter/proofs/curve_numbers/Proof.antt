@@ -5,10 +5,10 @@ use Rattle.plotter.proofs.curve_numbers.Statement.{statement}
 use Rattle.plotter.proofs.curve_numbers.Tie as tie
 
 abbrev Inv-loop : tie.InvT-loop
-Inv-loop view road count free₀ k₀ free k = Unit {0}
+Inv-loop view road count free₀ k₀ t10 free k = Unit {0}
 
 abbrev μ-loop : tie.MeasureT-loop
-μ-loop view road count free₀ k₀ free k = 32 - k
+μ-loop view road count free₀ k₀ t10 free k = 32 - k
 
 cast-count : tie.Need-cast-count Inv-loop μ-loop
 cast-count c = search needs
@@ -22,29 +22,29 @@ mul-c c = search needs
 element-copy-out-c : tie.Need-element-copy-out-c Inv-loop μ-loop
 element-copy-out-c c = search needs
 
-on-road-requires : tie.Need-on-road-requires Inv-loop μ-loop
-on-road-requires c κs = search needs
-
-cast-if2 : tie.Need-cast-if2 Inv-loop μ-loop
-cast-if2 c = search needs
+cast-at : tie.Need-cast-at Inv-loop μ-loop
+cast-at c = search needs
 
 x-of-requires : tie.Need-x-of-requires Inv-loop μ-loop
 x-of-requires c κs = search needs
 
-add-curve-number : tie.Need-add-curve-number Inv-loop μ-loop
-add-curve-number c = search needs
+slice-aggregate-draw : tie.Need-slice-aggregate-draw Inv-loop μ-loop
+slice-aggregate-draw c = search needs
 
-curve-number-requires : tie.Need-curve-number-requires Inv-loop μ-loop
-curve-number-requires c κs = search needs
+add-free : tie.Need-add-free Inv-loop μ-loop
+add-free c = search needs
+
+slice-aggregate-draw-2 : tie.Need-slice-aggregate-draw-2 Inv-loop μ-loop
+slice-aggregate-draw-2 c = search needs
+
+draw-requires : tie.Need-draw-requires Inv-loop μ-loop
+draw-requires c κs = search needs
 
 cast-free : tie.Need-cast-free Inv-loop μ-loop
 cast-free c = search needs
 
-cast-free-2 : tie.Need-cast-free-2 Inv-loop μ-loop
-cast-free-2 c = search needs
-
-add-free : tie.Need-add-free Inv-loop μ-loop
-add-free c = search needs
+add-free-2 : tie.Need-add-free-2 Inv-loop μ-loop
+add-free-2 c = search needs
 
 add-k : tie.Need-add-k Inv-loop μ-loop
 add-k c = search needs
@@ -68,14 +68,14 @@ curve-numbers-spec =
     loop-holds
     mul-c
     element-copy-out-c
-    on-road-requires
-    cast-if2
+    cast-at
     x-of-requires
-    add-curve-number
-    curve-number-requires
-    cast-free
-    cast-free-2
+    slice-aggregate-draw
     add-free
+    slice-aggregate-draw-2
+    draw-requires
+    cast-free
+    add-free-2
     add-k
     loop-less
     loop-again

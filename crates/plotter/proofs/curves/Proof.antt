@@ -13,8 +13,11 @@ abbrev μ-loop : tie.MeasureT-loop
 cast-count : tie.Need-cast-count Inv-loop μ-loop
 cast-count c = search needs
 
-key-requires : tie.Need-key-requires Inv-loop μ-loop
-key-requires c κs = search needs
+slice-aggregate-text : tie.Need-slice-aggregate-text Inv-loop μ-loop
+slice-aggregate-text c = search needs
+
+text-requires : tie.Need-text-requires Inv-loop μ-loop
+text-requires c κs = search needs
 
 loop-holds : tie.Need-loop-holds Inv-loop μ-loop
 loop-holds c = search needs
@@ -47,7 +50,8 @@ curves-spec =
     Inv-loop
     μ-loop
     cast-count
-    key-requires
+    slice-aggregate-text
+    text-requires
     loop-holds
     mul-c
     element-copy-out-c

@@ -25,14 +25,17 @@ mul-if2 c = search needs
 returns : tie.Need-returns Inv-loop μ-loop
 returns c = search needs
 
-slice-aggregate-number : tie.Need-slice-aggregate-number Inv-loop μ-loop
-slice-aggregate-number c = search needs
+slice-aggregate-draw : tie.Need-slice-aggregate-draw Inv-loop μ-loop
+slice-aggregate-draw c = search needs
 
-div-number : tie.Need-div-number Inv-loop μ-loop
-div-number c = search needs
+div-t11 : tie.Need-div-t11 Inv-loop μ-loop
+div-t11 c = search needs
 
-number-requires : tie.Need-number-requires Inv-loop μ-loop
-number-requires c κs = search needs
+slice-aggregate-draw-2 : tie.Need-slice-aggregate-draw-2 Inv-loop μ-loop
+slice-aggregate-draw-2 c = search needs
+
+draw-requires : tie.Need-draw-requires Inv-loop μ-loop
+draw-requires c κs = search needs
 
 loop-less : tie.Need-loop-less Inv-loop μ-loop
 loop-less c = search needs
@@ -54,9 +57,10 @@ decimals-spec =
     loop-holds
     mul-if2
     returns
-    slice-aggregate-number
-    div-number
-    number-requires
+    slice-aggregate-draw
+    div-t11
+    slice-aggregate-draw-2
+    draw-requires
     loop-less
     loop-again
     returns-2)

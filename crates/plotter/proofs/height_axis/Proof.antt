@@ -9,10 +9,10 @@ use Rattle.plotter.proofs.height_axis.Statement.{statement}
 use Rattle.plotter.proofs.height_axis.Tie as tie
 
 abbrev Inv-loop : tie.InvT-loop
-Inv-loop view shown step first k₀ t7 t8 k = Unit {0}
+Inv-loop view shown step first k₀ t7 k = Unit {0}
 
 abbrev μ-loop : tie.MeasureT-loop
-μ-loop view shown step first k₀ t7 t8 k = 12 - k
+μ-loop view shown step first k₀ t7 k = 12 - k
 
 pace : (c : tie.After-step Inv-loop μ-loop) → (0 < c .step .result) × (c .step .result ≤ 10000000)
 pace c = rw (c .step .ensures) (step-positive _ _, step-at-most _ _)
@@ -71,12 +71,6 @@ slice-aggregate-text c = search needs
 text-requires : tie.Need-text-requires Inv-loop μ-loop
 text-requires c κs = search needs
 
-slice-aggregate-text-2 : tie.Need-slice-aggregate-text-2 Inv-loop μ-loop
-slice-aggregate-text-2 c = search needs
-
-text-requires-2 : tie.Need-text-requires-2 Inv-loop μ-loop
-text-requires-2 c κs = search needs
-
 returns : tie.Need-returns Inv-loop μ-loop
 returns c = search needs
 
@@ -100,6 +94,4 @@ height-axis-spec =
     loop-again
     slice-aggregate-text
     text-requires
-    slice-aggregate-text-2
-    text-requires-2
     returns)

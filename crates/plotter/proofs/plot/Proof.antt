@@ -39,20 +39,17 @@ read-requires c κs = search needs
 enum-known-verdict : tie.Need-enum-known-verdict
 enum-known-verdict c = search needs
 
-slice-aggregate-number : tie.Need-slice-aggregate-number
-slice-aggregate-number c = search needs
+slice-aggregate-draw : tie.Need-slice-aggregate-draw
+slice-aggregate-draw c = search needs
 
-cast-number : tie.Need-cast-number
-cast-number c = search needs
+cast-t14 : tie.Need-cast-t14
+cast-t14 c = search needs
 
-number-requires : tie.Need-number-requires
-number-requires c κs = search needs
+slice-aggregate-draw-2 : tie.Need-slice-aggregate-draw-2
+slice-aggregate-draw-2 c = search needs
 
-slice-aggregate-text : tie.Need-slice-aggregate-text
-slice-aggregate-text c = search needs
-
-text-requires : tie.Need-text-requires
-text-requires c κs = search needs
+draw-requires : tie.Need-draw-requires
+draw-requires c κs = search needs
 
 returns : tie.Need-returns
 returns c = search needs
@@ -81,17 +78,17 @@ add-stations c = search needs
 array-share-prefix-heights : tie.Need-array-share-prefix-heights
 array-share-prefix-heights c = rooms c .0
 
-slice-aggregate-draw : tie.Need-slice-aggregate-draw
-slice-aggregate-draw c = sym (length-take-le _ _ (rooms (c .before) .0))
+slice-aggregate-sheet : tie.Need-slice-aggregate-sheet
+slice-aggregate-sheet c = sym (length-take-le _ _ (rooms (c .before) .0))
 
 array-share-prefix-marks : tie.Need-array-share-prefix-marks
 array-share-prefix-marks c = rooms (c .before) .1
 
-slice-aggregate-draw-2 : tie.Need-slice-aggregate-draw-2
-slice-aggregate-draw-2 c = sym (length-take-le _ _ (rooms (c .before .before) .1))
+slice-aggregate-sheet-2 : tie.Need-slice-aggregate-sheet-2
+slice-aggregate-sheet-2 c = sym (length-take-le _ _ (rooms (c .before .before) .1))
 
-draw-requires : tie.Need-draw-requires
-draw-requires c κs =
+sheet-requires : tie.Need-sheet-requires
+sheet-requires c κs =
     let r = rooms (c .before .before) .0 in
     let m = c .before .before .before .before .before .before .before .before .before .before in
     simp (length-take-le) (omega (arith, sound m .length-high))
@@ -105,11 +102,10 @@ plot-spec =
     (tie.spec
     read-requires
     enum-known-verdict
-    slice-aggregate-number
-    cast-number
-    number-requires
-    slice-aggregate-text
-    text-requires
+    slice-aggregate-draw
+    cast-t14
+    slice-aggregate-draw-2
+    draw-requires
     returns
     enum-told
     slice-aggregate-heights
@@ -119,8 +115,8 @@ plot-spec =
     cast-stations
     add-stations
     array-share-prefix-heights
-    slice-aggregate-draw
+    slice-aggregate-sheet
     array-share-prefix-marks
-    slice-aggregate-draw-2
-    draw-requires
+    slice-aggregate-sheet-2
+    sheet-requires
     returns-2)

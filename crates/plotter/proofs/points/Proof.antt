@@ -6,28 +6,19 @@ use Rattle.plotter.proofs.points.Statement.{statement}
 use Rattle.plotter.proofs.points.Tie as tie
 
 abbrev Inv-loop : tie.InvT-loop
-Inv-loop view heights i₀ t4 t5 i-end i = Unit {0}
+Inv-loop view heights i₀ t6 i-end i = Unit {0}
 
 abbrev μ-loop : tie.MeasureT-loop
-μ-loop view heights i₀ t4 t5 i-end i = length heights - i
+μ-loop view heights i₀ t6 i-end i = length heights - i
 
 loop-holds : tie.Need-loop-holds Inv-loop μ-loop
 loop-holds c = search needs
-
-slice-aggregate-number : tie.Need-slice-aggregate-number Inv-loop μ-loop
-slice-aggregate-number c = search needs
 
 cast-x-of : tie.Need-cast-x-of Inv-loop μ-loop
 cast-x-of c = search needs
 
 x-of-requires : tie.Need-x-of-requires Inv-loop μ-loop
 x-of-requires c κs = search needs
-
-number-requires : tie.Need-number-requires Inv-loop μ-loop
-number-requires c κs = search needs
-
-slice-aggregate-number-2 : tie.Need-slice-aggregate-number-2 Inv-loop μ-loop
-slice-aggregate-number-2 c = search needs
 
 mul-lift : tie.Need-mul-lift Inv-loop μ-loop
 mul-lift c = search needs
@@ -41,8 +32,14 @@ lift-requires c κs = search needs
 y-of-requires : tie.Need-y-of-requires Inv-loop μ-loop
 y-of-requires c κs = search needs
 
-number-requires-2 : tie.Need-number-requires-2 Inv-loop μ-loop
-number-requires-2 c κs = search needs
+slice-aggregate-draw : tie.Need-slice-aggregate-draw Inv-loop μ-loop
+slice-aggregate-draw c = search needs
+
+slice-aggregate-draw-2 : tie.Need-slice-aggregate-draw-2 Inv-loop μ-loop
+slice-aggregate-draw-2 c = search needs
+
+draw-requires : tie.Need-draw-requires Inv-loop μ-loop
+draw-requires c κs = search needs
 
 add-i : tie.Need-add-i Inv-loop μ-loop
 add-i c = search needs
@@ -63,16 +60,15 @@ points-spec =
     Inv-loop
     μ-loop
     loop-holds
-    slice-aggregate-number
     cast-x-of
     x-of-requires
-    number-requires
-    slice-aggregate-number-2
     mul-lift
     shared-slice-copy-out-lift
     lift-requires
     y-of-requires
-    number-requires-2
+    slice-aggregate-draw
+    slice-aggregate-draw-2
+    draw-requires
     add-i
     loop-less
     loop-again

@@ -1,17 +1,17 @@
--- `lowest` meets its contract: the lowest only falls. The measure is what is left of the heights.
+-- `view_of` meets its contract: the lowest only falls, and the foot is no higher. The measure is what is left of the heights.
 use mathlib.Core.Logic.{⊎-elim}
 use Prim.Native.Nat.{_≤_, _-_}
 use borrow.Author.Needs.{needs}
 use native.Mathlib.Omega.{arith}
 use lib.ListN.{length}
-use Rattle.plotter.proofs.lowest.Statement.{statement}
-use Rattle.plotter.proofs.lowest.Tie as tie
+use Rattle.plotter.proofs.view_of.Statement.{statement}
+use Rattle.plotter.proofs.view_of.Tie as tie
 
 abbrev Inv-loop : tie.InvT-loop
-Inv-loop heights low₀ i₀ i-end low i = low ≤ 6000000000
+Inv-loop heights n low₀ high₀ i₀ i-end low high i = low ≤ 6000000000
 
 abbrev μ-loop : tie.MeasureT-loop
-μ-loop heights low₀ i₀ i-end low i = length heights - i
+μ-loop heights n low₀ high₀ i₀ i-end low high i = length heights - i
 
 loop-holds : tie.Need-loop-holds Inv-loop μ-loop
 loop-holds c = search needs
@@ -32,13 +32,16 @@ loop-less : tie.Need-loop-less Inv-loop μ-loop
 loop-less c = search needs
 
 loop-again : tie.Need-loop-again Inv-loop μ-loop
-loop-again c = ⊎-elim (λ w. omega arith) (λ w. omega arith) (c .if1 .came)
+loop-again c = ⊎-elim (λ w. omega arith) (λ w. omega arith) (c .before .if1 .came)
+
+foot-requires : tie.Need-foot-requires Inv-loop μ-loop
+foot-requires c κs = search needs
 
 returns : tie.Need-returns Inv-loop μ-loop
 returns c = search needs
 
-pub lowest-spec : {M : Type 1} → statement M
-lowest-spec =
+pub view-of-spec : {M : Type 1} → statement M
+view-of-spec =
     tie.close
     (tie.spec
     Inv-loop
@@ -50,4 +53,5 @@ lowest-spec =
     add-i
     loop-less
     loop-again
+    foot-requires
     returns)
