@@ -12,7 +12,7 @@ use Rattle.picture.proofs.down.Tie as tie
 above-is : (c : tie.After-exaggeration) →
     let a = c .before .before .before .before .before .args in
     c .before .smaller .result ≡ min (a .height - a .low) (shown (a .length) (a .range))
-above-is c = cc
+above-is c = rw (c .before .smaller .ensures, c .before .before .shown .ensures, c .before .before .before .less .ensures) refl
 
 drawn : (c : tie.After-exaggeration) →
     let n = c .before .before .before .before .before .args .length in
