@@ -16,13 +16,12 @@ PLOT ?= target/plot/$(basename $(notdir $(ROAD))).svg
 SOURCES := crates.txt $(shell find crates -type f)
 
 # Proves every crate from nothing, tries every must-fail edit and runs the programs; then links the proved functions into
-# the Rust tests and runs them. Where all went well the last line repeats that of `rt ci`. Four checks at a time, the kit's
-# most, leave no processor waiting for the longest of a pair.
+# the Rust tests and runs them. Where all went well the last line repeats that of `rt ci`.
 test: tools
 	exec 2>&1
 	log=$$(mktemp)
 	trap 'rm -f "$$log"' EXIT
-	RT_JOBS=4 rt ci | tee "$$log"
+	rt ci | tee "$$log"
 	rt staticlib van
 	rt staticlib probe
 	cargo test --workspace --release --offline --quiet
