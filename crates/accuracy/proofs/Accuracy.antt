@@ -20,10 +20,10 @@ use Rattle.terms.specs.declared.Answer.the-variants.{Number}
 use Rattle.terms.specs.declared.Verdict.the-variants.{Accepted}
 use Rattle.road.specs.declared.Road.{Road}
 use Rattle.road.specs.Road.{roadVerdict}
-use Rattle.road.specs.Profile.{exactHeight, storedHeight}
-use Rattle.road.specs.Heights.{heightsAnswer, heightsList}
 use Rattle.road.proofs.Accepted.{accepted-road}
-use Rattle.road.proofs.Profile.{stored-floor}
+use Rattle.heights.specs.Profile.{exactHeight, storedHeight}
+use Rattle.heights.specs.Heights.{heightsAnswer, heightsList}
+use Rattle.heights.proofs.Profile.{stored-floor}
 use Rattle.sight.specs.Sight.{at, clears, seen, least, availableSight}
 use Rattle.sight.specs.Operations.{sightAnswer, profileAnswer, profileList}
 use Rattle.sight.proofs.Reach.{available-mono, reach-is, least-le-right}

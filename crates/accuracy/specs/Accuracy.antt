@@ -11,7 +11,7 @@ use Rattle.terms.specs.declared.Answer.the-variants.{Number}
 use Rattle.terms.specs.declared.Verdict.the-variants.{Accepted}
 use Rattle.road.specs.declared.Road.{Road}
 use Rattle.road.specs.Road.{roadVerdict}
-use Rattle.road.specs.Heights.{heightsAnswer, heightsList}
+use Rattle.heights.specs.Heights.{heightsAnswer, heightsList}
 use Rattle.sight.specs.Operations.{sightAnswer, profileAnswer, profileList}
 use Rattle.accuracy.specs.ExactSight.{exactSight}
 

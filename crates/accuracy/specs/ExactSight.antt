@@ -6,7 +6,7 @@ use lib.IntN.{pos, _+ℤ_, _*ℤ_}
 use lib.Signed.{leZ}
 use Rattle.whole.specs.Floor.{Frac}
 use Rattle.road.specs.declared.Road.{Road}
-use Rattle.road.specs.Profile.{exactHeight}
+use Rattle.heights.specs.Profile.{exactHeight}
 use Rattle.sight.specs.Sight.{every, reach, least}
 
 -- ---- fractions of whole numbers with positive denominators

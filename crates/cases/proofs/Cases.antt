@@ -4,7 +4,7 @@ use Rattle.whole.specs.Floor.{floorDiv}
 use Rattle.distance.specs.Distance.{requiredDistance, levelParts, upToFive}
 use Rattle.crest.specs.Crest.{crestLength, leastEven, adequate, withinRoot}
 use Rattle.road.specs.Road.{roadVerdict, curvesVerdict, curveVerdict}
-use Rattle.road.specs.Profile.{storedHeight, exactHeight, exactFrom}
+use Rattle.heights.specs.Profile.{storedHeight, exactHeight, exactFrom}
 use Rattle.sight.specs.Sight.{availableSight, reach, seen, every, clears}
 use Rattle.sight.specs.Operations.{sightAnswer}
 use Rattle.cases.specs.Cases.{StarredCases, curve, crestRoad}

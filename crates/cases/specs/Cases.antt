@@ -12,7 +12,7 @@ use Rattle.crest.specs.Crest.{crestLength}
 use Rattle.road.specs.declared.Curve.{Curve}
 use Rattle.road.specs.declared.Road.{Road}
 use Rattle.road.specs.Road.{roadVerdict}
-use Rattle.road.specs.Profile.{storedHeight}
+use Rattle.heights.specs.Profile.{storedHeight}
 use Rattle.sight.specs.Operations.{sightAnswer}
 
 -- a curve by its PVI, its length and its grade out

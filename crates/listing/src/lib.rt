@@ -10,7 +10,7 @@ use terms::Answer;
 use terms::Verdict;
 
 // The version of a road file.
-const VERSION: u32 = 1;
+const VERSION: u32 = file::VERSION as u32;
 
 // One space parts the items of a line, and every line ends with a line feed.
 const SPACE: u8 = 32;

@@ -14,10 +14,10 @@ use Rattle.terms.specs.declared.Verdict.the-variants.{Accepted}
 use Rattle.terms.proofs.Laws.{not-outside}
 use Rattle.road.specs.declared.Road.{Road}
 use Rattle.road.specs.Road.{roadVerdict}
-use Rattle.road.specs.Profile.{storedHeight}
-use Rattle.road.specs.Heights.{heightsList}
 use Rattle.road.proofs.Accepted.{accepted-road}
-use Rattle.road.proofs.HeightsAnswer.{heights-filled}
+use Rattle.heights.specs.Profile.{storedHeight}
+use Rattle.heights.specs.Heights.{heightsList}
+use Rattle.heights.proofs.HeightsAnswer.{heights-filled}
 use Rattle.marks.specs.Marks.{markFor, marksAnswer, marksList}
 use Rattle.marks.specs.RoadFile.{ownHeights}
 

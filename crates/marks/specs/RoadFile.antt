@@ -10,7 +10,7 @@ use Rattle.terms.specs.Refusals.{roomRefused}
 use Rattle.terms.specs.declared.Answer.{Answer}
 use Rattle.terms.specs.declared.Answer.the-variants.{Number}
 use Rattle.road.specs.declared.Road.{Road}
-use Rattle.road.specs.Profile.{storedHeight}
+use Rattle.heights.specs.Profile.{storedHeight}
 use Rattle.file.specs.File.{roadIn}
 use Rattle.file.specs.Operations.{readVerdict}
 use Rattle.marks.specs.Marks.{markFor}

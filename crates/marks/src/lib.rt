@@ -109,7 +109,7 @@ fn mark_road(road: Road, list: &mut [u8])
     ensures { λ _. ⌜ now (list .exit) ≡ filled (markFor (road .speed) (road .purpose) (ownHeights road)) 0 (road .length + 1) (now (list .entry)) ⌝ }
 {
     let mut heights = [0i32; terms::GREATEST_LIST];
-    road::heights(road, &mut heights);
+    heights::heights(road, &mut heights);
     let stations = road.length as usize + 1;
     marks(
         road.speed as u32,

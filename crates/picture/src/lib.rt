@@ -4,9 +4,9 @@ ghost use Prim.Native.Nat.{_-_, _*_, _≤_, _<_, min, max};
 ghost use Rattle.picture.specs.Picture.{plotHeight, alongHalf, across, zoneLeft, zoneWidth, showing, exaggeration, shown, lifted, foot, down, step};
 
 // ---- the plot on the sheet of 1,600 by 900 pixels
-pub const LEFT: u64 = 22000;
+const LEFT: u64 = 22000;
 
-pub const WIDTH: u64 = 128000;
+const WIDTH: u64 = 128000;
 
 pub const TOP: u64 = 14000;
 

@@ -390,7 +390,7 @@ fn curves(view: View, road: Road, heights: &[i32]) {
 <path class=\"crest\" d=\"M14100 11700L14650 10700L15200 11700Z\"/><text x=\"15700\" y=\"11650\">break</text>
 ",
     );
-    for k in 0..32 {
+    for k in 0..terms::CURVE_PLACES {
         if k < count {
             let c = road.curves[k];
             let out = c.grade_out;
@@ -406,7 +406,7 @@ fn curves(view: View, road: Road, heights: &[i32]) {
 fn curve_numbers(view: View, road: Road) {
     let count = road.count as usize;
     let mut free: u64 = 0;
-    for k in 0..32 {
+    for k in 0..terms::CURVE_PLACES {
         if k < count {
             let c = road.curves[k];
             let at = c.pvi as u64;
@@ -552,7 +552,7 @@ fn plot(file: &[u8]) {
     }
     let road = read.road;
     let mut heights = [0i32; terms::GREATEST_LIST];
-    road::heights(road, &mut heights);
+    heights::heights(road, &mut heights);
     let mut marks = [0u8; terms::GREATEST_LIST];
     marks::mark_road_file(file, &mut marks);
     let stations = road.length as usize + 1;

@@ -7,7 +7,7 @@ use Rattle.terms.specs.Answers.{unless}
 use Rattle.terms.specs.declared.Answer.{Answer}
 use Rattle.terms.specs.declared.Verdict.{Verdict}
 use Rattle.terms.specs.declared.Verdict.the-variants.{Accepted, Fault}
-use Rattle.road.specs.Heights.{heightsAnswer, heightsList}
+use Rattle.heights.specs.Heights.{heightsAnswer, heightsList}
 use Rattle.file.specs.File.{roadIn}
 use Rattle.file.specs.Operations.{readVerdict, writeAnswer, writeList}
 

@@ -32,7 +32,7 @@ pub extern "C" fn probe_heights(file: &[u8], list: &mut [i32]) -> i64
         return terms::signed_answer(Answer::Refused(number));
     }
     let road = read.road;
-    terms::signed_answer(road::heights(road, list))
+    terms::signed_answer(heights::heights(road, list))
 }
 
 #[no_mangle]

@@ -5,10 +5,10 @@ use mathlib.Core.List.{List}
 use lib.IntN.{ℤ, natAbs}
 use Rattle.whole.specs.Floor.{Frac, floor}
 use Rattle.terms.specs.Limits.{highestStart, greatestGrade, greatestCurve}
 use Rattle.road.specs.declared.Curve.{Curve}
-use Rattle.road.specs.declared.Walk.{Walk}
 use Rattle.road.specs.Road.{begin, end}
-use Rattle.road.specs.Profile.{straight, onCurve, endHeight, exactFrom}
+use Rattle.heights.specs.declared.Walk.{Walk}
+use Rattle.heights.specs.Profile.{straight, onCurve, endHeight, exactFrom}
 
 -- from a start height in its range, each metre leads at most the greatest grade up or down
 pub record Near (at : Walk) : Type 0 where

@@ -8,9 +8,9 @@ use Rattle.terms.specs.Answers.{unless, refuse, written}
 use Rattle.terms.specs.Refusals.{roomRefused}
 use Rattle.terms.specs.declared.Answer.{Answer}
 use Rattle.terms.specs.declared.Answer.the-variants.{Number}
 use Rattle.road.specs.declared.Road.{Road}
 use Rattle.road.specs.Road.{roadVerdict}
-use Rattle.road.specs.Profile.{storedHeight}
+use Rattle.heights.specs.Profile.{storedHeight}
 
 -- refused as the road is, then 14; else how many places are written, N + 1
 unfoldable pub heightsAnswer : Road → List ℤ → Answer

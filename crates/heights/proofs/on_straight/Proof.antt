@@ -1,4 +1,4 @@
--- `road::on_straight` meets its contract: a walk along the road is near enough to zero that each step fits 32 bits.
+-- `heights::on_straight` meets its contract: a walk along the road is near enough to zero that each step fits 32 bits.
 use borrow.Author.Needs.{needs}
 use native.Mathlib.Omega.{arith}
 use lib.IntN.{pos}
@@ -7,9 +7,9 @@ use mir.Val.{toZ}
 use Rattle.whole.proofs.Range.{Reads, countR, fits-by, same-by, sizes}
 use Rattle.whole.proofs.Range.{reads as reading}
 use Rattle.terms.specs.Limits.{greatestRoad}
-use Rattle.road.proofs.Along.{grade-read, height-read}
-use Rattle.road.proofs.on_straight.Statement.{statement}
-use Rattle.road.proofs.on_straight.Tie as tie
+use Rattle.heights.proofs.Along.{grade-read, height-read}
+use Rattle.heights.proofs.on_straight.Statement.{statement}
+use Rattle.heights.proofs.on_straight.Tie as tie
 
 -- what is read
 module _ (s : tie.Start) where

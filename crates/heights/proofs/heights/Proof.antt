@@ -1,14 +1,14 @@
--- `road::heights` meets its contract: each return is one of the three ways of proofs/HeightsAnswer.antt, and an accepted road is
+-- `heights::heights` meets its contract: each return is one of the three ways of proofs/HeightsAnswer.antt, and an accepted road is
 -- short enough for N + 1.
 use mathlib.Core.Path.{_≡_, sym, _∙_}
 use borrow.Author.Needs.{needs}
 use native.Mathlib.Omega.{arith}
 use Rattle.terms.specs.declared.Verdict.the-variants.{Accepted}
 use Rattle.road.specs.Road.{roadVerdict}
 use Rattle.road.proofs.Accepted.{accepted-road}
-use Rattle.road.proofs.HeightsAnswer.{heights-fault, heights-room, heights-filled}
-use Rattle.road.proofs.heights.Statement.{statement}
-use Rattle.road.proofs.heights.Tie as tie
+use Rattle.heights.proofs.HeightsAnswer.{heights-fault, heights-room, heights-filled}
+use Rattle.heights.proofs.heights.Statement.{statement}
+use Rattle.heights.proofs.heights.Tie as tie
 
 -- the verdict, where it is no fault
 accepted : (c : tie.After-enum-told) → roadVerdict (c .before .before .before .args .road) ≡ Accepted

@@ -18,12 +18,12 @@ use Rattle.whole.proofs.Floor.{floor-plus, floor-whole}
 use Rattle.whole.proofs.Int.{nat, var, neg, le-to}
 use Rattle.whole.proofs.Range.{Reads, readR, add-size, neg-size, mul-size}
 use Rattle.terms.specs.Limits.{highestStart, greatestGrade, greatestRoad}
 use Rattle.road.specs.declared.Curve.{Curve}
-use Rattle.road.specs.declared.Walk.{Walk}
 use Rattle.road.specs.Road.{begin, end, half}
-use Rattle.road.specs.Profile.{straight, onCurve, endHeight, exactFrom}
-use Rattle.road.specs.Walk.{Near, Mild, heightAlong, heightOver, exactAhead, along, past}
 use Rattle.road.proofs.Accepted.{SoundCurve}
+use Rattle.heights.specs.declared.Walk.{Walk}
+use Rattle.heights.specs.Profile.{straight, onCurve, endHeight, exactFrom}
+use Rattle.heights.specs.Walk.{Near, Mild, heightAlong, heightOver, exactAhead, along, past}
 
 -- ---- sizes
 -- how far from zero a walk on a road can stand
@@ -136,14 +136,14 @@ near-past n at c near s =
     record { height-size = omega (arith, s .from-zero); grade-size = out }
 
 -- the row along the straight and the row over the curve are the profile's up to the curve's end
-pub filled-past : (n b : ℕ) (at foot : Walk) (c : Curve) (xs ys zs : List ℤ) → SoundCurve n (at .station) c → b ≡ begin c → foot ≡ along at b →
-    ys ≡ filled (heightAlong at) (at .station + 1) (b - at .station) xs →
+pub filled-past : (n : ℕ) (at foot : Walk) (c : Curve) (xs ys zs : List ℤ) → SoundCurve n (at .station) c → foot ≡ along at (begin c) →
+    ys ≡ filled (heightAlong at) (at .station + 1) (begin c - at .station) xs →
     zs ≡ filled (heightOver foot c) (foot .station + 1) (c .length) ys →
     zs ≡ filled (λ x. floor (exactAhead at (c ∷ []) x)) (at .station + 1) (end c - at .station) xs
-filled-past n b at foot c xs ys zs s e f p q =
+filled-past n at foot c xs ys zs s f p q =
     let x₀ = at .station in let z = at .height in let g = at .grade in
     let run : begin c + c .length ≡ end c = omega (arith, s .even, s .from-zero) in
     let order : x₀ ≤ begin c = s .ordered in
-    filled-then _ _ _ (x₀ + 1) (begin c - x₀) (begin c + 1) (c .length) (end c - x₀) xs ys zs (rw e at p) (rw (f, e) at q) (omega arith) (omega arith)
+    filled-then _ _ _ (x₀ + 1) (begin c - x₀) (begin c + 1) (c .length) (end c - x₀) xs ys zs p (rw f at q) (omega arith) (omega arith)
     (λ x l u. sym (floor-whole (straight z g (x - x₀))) ∙ ap floor (sym (exact-before x₀ z g c [] x (omega arith))))
     (λ x l u. ap floor (sym (exact-on x₀ z g c [] x (omega arith) (omega arith))))

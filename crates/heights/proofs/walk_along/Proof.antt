@@ -1,12 +1,12 @@
--- `road::walk_along` meets its contract: the height is what `on_straight` answers, and the machine reads both numbers back.
+-- `heights::walk_along` meets its contract: the height is what `on_straight` answers, and the machine reads both numbers back.
 use mathlib.Core.Path.{refl, _∙_}
 use borrow.Author.Needs.{needs}
 use mir.Syntax.{w32}
 use Rattle.whole.proofs.Machine.{got}
 use Rattle.whole.proofs.Range.{same-by}
-use Rattle.road.proofs.Along.{grade-read, walk-same}
-use Rattle.road.proofs.walk_along.Statement.{statement}
-use Rattle.road.proofs.walk_along.Tie as tie
+use Rattle.heights.proofs.Along.{grade-read, walk-same}
+use Rattle.heights.proofs.walk_along.Statement.{statement}
+use Rattle.heights.proofs.walk_along.Tie as tie
 
 sub-on-straight : tie.Need-sub-on-straight
 sub-on-straight c = search needs

@@ -1,4 +1,4 @@
--- `road::fill_road` meets its contract. The loop's invariant: past `k` curves the walk stands at the end of the last, with the
+-- `heights::fill_road` meets its contract. The loop's invariant: past `k` curves the walk stands at the end of the last, with the
 -- heights filled up to there (`Walked`). The measure is the number of curves left.
 use Prim.Native.Nat.{_≤_, _<_, _-_, _+_}
 use mathlib.Core.Path.{_≡_, ap, _∙_}
@@ -10,13 +10,13 @@ use mir.Syntax.{w16, w32}
 use mir.Val.{toZ, ofZ}
 use Rattle.whole.proofs.Fill.{filled-length}
 use Rattle.whole.proofs.Range.{same-by}
 use Rattle.road.specs.Road.{noCurve, curvesOf}
 use Rattle.road.proofs.Accepted.{SoundRoad, accepted-road}
-use Rattle.road.proofs.Along.{grade-read, height-read}
 use Rattle.road.proofs.Places.{curve-places}
-use Rattle.road.proofs.Walked.{Walked, near-start, walked-none, next-curve, next-sound, next-on-road, walked-more, walked-all}
-use Rattle.road.proofs.fill_road.Statement.{statement}
-use Rattle.road.proofs.fill_road.Tie as tie
+use Rattle.heights.proofs.Along.{grade-read, height-read}
+use Rattle.heights.proofs.Walked.{Walked, near-start, walked-none, next-curve, next-sound, next-on-road, walked-more, walked-all}
+use Rattle.heights.proofs.fill_road.Statement.{statement}
+use Rattle.heights.proofs.fill_road.Tie as tie
 
 abbrev Inv-loop : tie.InvT-loop
 Inv-loop list₀ road at₀ count k₀ list at k = Walked road k at list₀ list

@@ -12,10 +12,10 @@ use lib.IntN.{ℤ, pos, _+ℤ_, _*ℤ_}
 use Rattle.whole.specs.Floor.{Frac}
 use Rattle.whole.proofs.Floor.{Floor, floor-is}
 use Rattle.whole.proofs.Int.{var, reps, eq-by}
 use Rattle.road.specs.declared.Curve.{Curve}
 use Rattle.road.specs.declared.Road.{Road}
 use Rattle.road.specs.Road.{begin, end, half, curvesOf}
-use Rattle.road.specs.Profile.{onCurve, endHeight, exactFrom, exactHeight, storedHeight}
+use Rattle.heights.specs.Profile.{onCurve, endHeight, exactFrom, exactHeight, storedHeight}
 
 -- ---- denominators
 cond-den-positive : (b : Bool) (p q : Frac) → (T b → 0 < p .den) → (T (not b) → 0 < q .den) → 0 < cond b p q .den

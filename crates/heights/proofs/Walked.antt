@@ -16,14 +16,14 @@ use Rattle.whole.proofs.Floor.{floor-whole}
 use Rattle.whole.proofs.Int.{var, reps, eq-by}
 use Rattle.terms.specs.Limits.{lowestStart, greatestGrade, greatestRoad}
 use Rattle.terms.specs.declared.Verdict.the-variants.{Accepted}
 use Rattle.road.specs.declared.Curve.{Curve}
 use Rattle.road.specs.declared.Road.{Road}
-use Rattle.road.specs.declared.Walk.{Walk}
 use Rattle.road.specs.Road.{begin, end, curvesOf, curvesVerdict}
-use Rattle.road.specs.Profile.{straight, exactFrom, exactHeight, storedHeight}
-use Rattle.road.specs.Walk.{Near, heightAlong, exactAhead, past}
 use Rattle.road.proofs.Accepted.{SoundCurve, SoundRoad, accepted-curve, sound-curve}
-use Rattle.road.proofs.Along.{range-size, exact-past, exact-upto, near-past, filled-then}
+use Rattle.heights.specs.declared.Walk.{Walk}
+use Rattle.heights.specs.Profile.{straight, exactFrom, exactHeight, storedHeight}
+use Rattle.heights.specs.Walk.{Near, heightAlong, exactAhead, past}
+use Rattle.heights.proofs.Along.{range-size, exact-past, exact-upto, near-past, filled-then}
 
 -- past i curves of the road the walk stands at the end of the last: the heights after station 0 are filled up to there, and from
 -- there the exact profile and the verdict go on by the curves that are left

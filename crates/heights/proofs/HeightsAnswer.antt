@@ -9,10 +9,10 @@ use Rattle.whole.specs.Fill.{filled}
 use Rattle.terms.specs.Refusals.{roomRefused}
 use Rattle.terms.specs.declared.Answer.the-variants.{Number, Refused}
 use Rattle.terms.specs.declared.Verdict.the-variants.{Accepted, Fault}
 use Rattle.road.specs.declared.Road.{Road}
 use Rattle.road.specs.Road.{roadVerdict}
-use Rattle.road.specs.Profile.{storedHeight}
-use Rattle.road.specs.Heights.{heightsAnswer, heightsList}
+use Rattle.heights.specs.Profile.{storedHeight}
+use Rattle.heights.specs.Heights.{heightsAnswer, heightsList}
 
 module _ (r : Road) (list : List ℤ) where
   pub heights-fault : {k : ℕ} → roadVerdict r ≡ Fault k → (Refused k ≡ heightsAnswer r list) × (list ≡ heightsList r list)

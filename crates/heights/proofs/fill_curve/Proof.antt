@@ -1,4 +1,4 @@
--- `road::fill_curve` meets its contract. The loop's invariant: the first `d` stations of the curve are filled, the rest is as it
+-- `heights::fill_curve` meets its contract. The loop's invariant: the first `d` stations of the curve are filled, the rest is as it
 -- was. The measure is what is left of its length.
 use Prim.Native.Nat.{ℕ, _≤_, _-_, _+_}
 use mathlib.Core.Path.{_≡_, ap, _∙_}
@@ -10,10 +10,10 @@ use Rattle.whole.specs.Fill.{filled}
 use Rattle.whole.proofs.Fill.{filled-none, filled-more, filled-to, filled-length}
 use Rattle.whole.proofs.Machine.{got}
 use Rattle.whole.specs.Floor.{floor}
-use Rattle.road.specs.Profile.{onCurve}
-use Rattle.road.specs.Walk.{heightOver}
-use Rattle.road.proofs.fill_curve.Statement.{statement}
-use Rattle.road.proofs.fill_curve.Tie as tie
+use Rattle.heights.specs.Profile.{onCurve}
+use Rattle.heights.specs.Walk.{heightOver}
+use Rattle.heights.proofs.fill_curve.Statement.{statement}
+use Rattle.heights.proofs.fill_curve.Tie as tie
 
 abbrev Inv-loop : tie.InvT-loop
 Inv-loop at c list₀ first run d₀ list d = (d ≤ c .length) × (list ≡ filled (heightOver at c) (at .station + 1) d list₀)

@@ -1,4 +1,4 @@
--- `road::on_curve` meets its contract. The height is that on the straight and the bend rounded down (`curve-floor`); the bend
+-- `heights::on_curve` meets its contract. The height is that on the straight and the bend rounded down (`curve-floor`); the bend
 -- is small (`bend-size`), so that the sum fits 32 bits.
 use Prim.Native.Nat.{_*_}
 use mathlib.Core.Bool.{true}
@@ -13,9 +13,9 @@ use Rattle.whole.proofs.Floor.{floorR}
 use Rattle.whole.proofs.Range.{Reads, mulB, natB, countR, mulR, fits-by, same-by, sizes}
 use Rattle.whole.proofs.Range.{reads as reading}
 use Rattle.terms.specs.Limits.{greatestGrade, greatestCurve}
-use Rattle.road.proofs.Along.{grade-read, height-read, out-read, bend-size, curve-floor}
-use Rattle.road.proofs.on_curve.Statement.{statement}
-use Rattle.road.proofs.on_curve.Tie as tie
+use Rattle.heights.proofs.Along.{grade-read, height-read, out-read, bend-size, curve-floor}
+use Rattle.heights.proofs.on_curve.Statement.{statement}
+use Rattle.heights.proofs.on_curve.Tie as tie
 
 -- what is read
 module _ (s : tie.Start) where

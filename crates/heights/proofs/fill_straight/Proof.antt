@@ -1,4 +1,4 @@
--- `road::fill_straight` meets its contract. The loop's invariant: the first `d` stations after this one are filled, the rest is
+-- `heights::fill_straight` meets its contract. The loop's invariant: the first `d` stations after this one are filled, the rest is
 -- as it was. The measure is what is left of the way.
 use Prim.Native.Nat.{_≤_, _-_, _+_}
 use mathlib.Core.Path.{_≡_, ap, _∙_}
@@ -9,10 +9,10 @@ use mir.Syntax.{w32}
 use Rattle.whole.specs.Fill.{filled}
 use Rattle.whole.proofs.Fill.{filled-none, filled-more, filled-to, filled-length}
 use Rattle.whole.proofs.Machine.{got}
-use Rattle.road.specs.Profile.{straight}
-use Rattle.road.specs.Walk.{heightAlong}
-use Rattle.road.proofs.fill_straight.Statement.{statement}
-use Rattle.road.proofs.fill_straight.Tie as tie
+use Rattle.heights.specs.Profile.{straight}
+use Rattle.heights.specs.Walk.{heightAlong}
+use Rattle.heights.proofs.fill_straight.Statement.{statement}
+use Rattle.heights.proofs.fill_straight.Tie as tie
 
 abbrev Inv-loop : tie.InvT-loop
 Inv-loop at to list₀ from metres d₀ list d = (d ≤ to - at .station) × (list ≡ filled (heightAlong at) (at .station + 1) d list₀)

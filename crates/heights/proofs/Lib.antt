@@ -1,0 +1,4 @@
+pub mod Along
+pub mod HeightsAnswer
+pub mod Profile
+pub mod Walked
