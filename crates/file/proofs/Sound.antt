@@ -15,7 +15,7 @@ use Rattle.road.specs.Road.{roadVerdict}
 use Rattle.road.proofs.Faults.{road-verdict-byte}
 use Rattle.file.specs.declared.ReadRoad.{ReadRoad}
 use Rattle.file.specs.File.{byteAt, u16At, fileLength, curveCount, letters, version, roadIn, noRoad}
-use Rattle.file.specs.Operations.{differs, readVerdict, readRoad}
+use Rattle.file.specs.Reading.{differs, readVerdict, readRoad}
 
 -- what an accepted file is
 pub record SoundFile (s : List ℕ) : Type 0 where

@@ -1,17 +1,16 @@
-// Document 01, "Road file": a road file read and written. All numbers little-endian, signed ones two's complement.
+// Document 01, "Road file": its layout, and reading it. All numbers little-endian, signed ones two's complement.
 ghost use mathlib.Core.Path.{_≡_};
-ghost use Prim.Native.Nat.{ℕ, _+_, _*_, _-_, _/_, _%_, _<_, _≤_};
+ghost use Prim.Native.Nat.{_+_, _<_, _≤_};
 ghost use lib.ListN.{length, replicate};
 ghost use mir.Syntax.{w16, w32};
-ghost use mir.Val.{toZ, ofZ};
+ghost use mir.Val.{toZ};
 ghost use Rattle.whole.specs.Fill.{filled};
 ghost use Rattle.terms.specs.Limits.{greatestCurveCount};
 ghost use Rattle.road.specs.Road.{noCurve};
-ghost use Rattle.file.specs.File.{byteAt, u16At, u32At, fileLength, curveCount, noRoad, curveAt, roadIn, headerBytes, curveBytes, fileBytes};
-ghost use Rattle.file.specs.Operations.{readRoad, writeAnswer, writeList};
+ghost use Rattle.file.specs.File.{u16At, u32At, fileLength, curveCount, noRoad, curveAt, roadIn};
+ghost use Rattle.file.specs.Reading.{readRoad};
 use road::Curve;
 use road::Road;
-use terms::Answer;
 use terms::Verdict;
 
 // What reading answers, and beside it the road: all zero where the file is refused.
@@ -43,11 +42,10 @@ const CURVE_BYTES: usize = 6;
 pub const VERSION: u16 = 1;
 
 // The length of a file with this many curves, and so where record `count` begins.
-fn file_length(count: usize) -> usize
-    requires { ⌜ count ≤ greatestCurveCount ⌝ }
+pub fn file_length(count: u8) -> usize
     ensures { λ r. ⌜ r ≡ fileLength count ⌝ }
 {
-    HEADER_BYTES + CURVE_BYTES * count
+    HEADER_BYTES + CURVE_BYTES * count as usize
 }
 
 // ---- numbers in a file
@@ -92,7 +90,7 @@ fn signed32(bits: u32) -> i32
 }
 
 // Record k: PVI, length, grade out.
-fn curve_at(file: &[u8], k: usize) -> Curve
+fn curve_at(file: &[u8], k: u8) -> Curve
     requires { ⌜ (k < greatestCurveCount) × (fileLength (k + 1) ≤ length (now file)) ⌝ }
     ensures { λ r. ⌜ r ≡ curveAt (now (file .entry)) k ⌝ }
 {
@@ -111,13 +109,13 @@ const NO_CURVE: Curve = Curve {
 };
 
 // Records 0 to n - 1, and zero in the other curve places.
-fn curves_in(file: &[u8], n: usize) -> [Curve; terms::CURVE_PLACES]
+fn curves_in(file: &[u8], n: u8) -> [Curve; terms::CURVE_PLACES]
     requires { ⌜ (n ≤ greatestCurveCount) × (fileLength n ≤ length (now file)) ⌝ }
     ensures { λ r. ⌜ r ≡ filled (curveAt (now (file .entry))) 0 n (replicate greatestCurveCount noCurve) ⌝ }
 {
     let mut curves = [NO_CURVE; terms::CURVE_PLACES];
     for k in 0..n {
-        curves[k] = curve_at(file, k);
+        curves[k as usize] = curve_at(file, k);
     }
     curves
 }
@@ -127,7 +125,7 @@ fn road_in(file: &[u8]) -> Road
     requires { ⌜ (curveCount (now file) ≤ greatestCurveCount) × (length (now file) ≡ fileLength (curveCount (now file))) ⌝ }
     ensures { λ r. ⌜ r ≡ roadIn (now (file .entry)) ⌝ }
 {
-    let curves = curves_in(file, file[COUNT_AT] as usize);
+    let curves = curves_in(file, file[COUNT_AT]);
     Road {
         speed: file[SPEED_AT],
         purpose: file[PURPOSE_AT],
@@ -176,7 +174,7 @@ pub fn read(file: &[u8]) -> ReadRoad
     if terms::GREATEST_CURVE_COUNT < count {
         return refused(terms::CURVE_COUNT_REFUSED);
     }
-    if file.len() != file_length(count as usize) {
+    if file.len() != file_length(count) {
         return refused(terms::TOTAL_REFUSED);
     }
     let road = road_in(file);
@@ -184,122 +182,5 @@ pub fn read(file: &[u8]) -> ReadRoad
     match verdict {
         Verdict::Fault(number) => refused(number),
         Verdict::Accepted => ReadRoad { verdict, road },
-    }
-}
-
-// ---- the bytes of a road
-// The two's complement bits of a number: `signed16` gives it back.
-fn bits16(number: i16) -> u16
-    ensures { λ r. ⌜ r ≡ ofZ w16 number ⌝ }
-{
-    if number < 0 {
-        return 65535 - ((-1 - number) as u16);
-    }
-    number as u16
-}
-
-fn bits32(number: i32) -> u32
-    ensures { λ r. ⌜ r ≡ ofZ w32 number ⌝ }
-{
-    if number < 0 {
-        return 4294967295 - ((-1 - number) as u32);
-    }
-    number as u32
-}
-
-// The lowest byte of a number, and the one above it.
-fn low(number: u32) -> u8
-    ensures { λ r. ⌜ r ≡ number % 256 ⌝ }
-{
-    (number % 256) as u8
-}
-
-fn high(number: u32) -> u8
-    ensures { λ r. ⌜ r ≡ number / 256 % 256 ⌝ }
-{
-    (number / 256 % 256) as u8
-}
-
-fn header_bytes(road: Road) -> [u8; 16]
-    ensures { λ r. ⌜ r ≡ headerBytes road ⌝ }
-{
-    let start = bits32(road.start_height);
-    let grade = bits16(road.first_grade) as u32;
-    [
-        b'V',
-        b'C',
-        b'P',
-        low(VERSION as u32),
-        high(VERSION as u32),
-        road.speed,
-        road.purpose,
-        low(road.length),
-        high(road.length),
-        low(start),
-        high(start),
-        low(start / 65536),
-        high(start / 65536),
-        low(grade),
-        high(grade),
-        road.count,
-    ]
-}
-
-fn curve_bytes(curve: Curve) -> [u8; 6]
-    ensures { λ r. ⌜ r ≡ curveBytes curve ⌝ }
-{
-    let length = curve.length as u32;
-    let grade = bits16(curve.grade_out) as u32;
-    [
-        low(curve.pvi),
-        high(curve.pvi),
-        low(length),
-        high(length),
-        low(grade),
-        high(grade),
-    ]
-}
-
-// Stores bytes in a row, the first at place `at`.
-fn put(buffer: &mut [u8], at: usize, bytes: &[u8])
-    requires { ⌜ at + length (now bytes) ≤ length (now buffer) ⌝ }
-    ensures { λ _. ⌜ now (buffer .exit) ≡ filled (λ (k : ℕ). byteAt (now (bytes .entry)) (k - at)) at (length (now (bytes .entry))) (now (buffer .entry)) ⌝ }
-{
-    for k in 0..bytes.len() {
-        buffer[at + k] = bytes[k];
-    }
-}
-
-// Stores the file of a road at the front of a buffer that has room for it.
-fn put_file(buffer: &mut [u8], road: Road)
-    requires { ⌜ (road .count ≤ greatestCurveCount) × (fileLength (road .count) ≤ length (now buffer)) ⌝ }
-    ensures { λ _. ⌜ now (buffer .exit) ≡ filled (byteAt (fileBytes road)) 0 (fileLength (road .count)) (now (buffer .entry)) ⌝ }
-{
-    let header = header_bytes(road);
-    put(buffer, 0, &header);
-    for k in 0..road.count as usize {
-        let curve = road.curves[k];
-        let bytes = curve_bytes(curve);
-        put(buffer, file_length(k), &bytes);
-    }
-}
-
-// Writes a road's file at the front of a buffer, and answers how many bytes that is. Refused by 4 and 6 to 13 as the road
-// is, then by 14; the buffer is then as it was.
-pub fn write(road: Road, buffer: &mut [u8]) -> Answer
-    ensures answer { λ r. ⌜ r ≡ writeAnswer road (now (buffer .entry)) ⌝ }
-    ensures list { λ _. ⌜ now (buffer .exit) ≡ writeList road (now (buffer .entry)) ⌝ }
-{
-    let verdict = road::verdict(road);
-    match verdict {
-        Verdict::Fault(number) => Answer::Refused(number),
-        Verdict::Accepted => {
-            let total = file_length(road.count as usize);
-            if buffer.len() < total {
-                return Answer::Refused(terms::ROOM_REFUSED);
-            }
-            put_file(buffer, road);
-            Answer::Number(total as u32)
-        }
     }
 }

@@ -13,7 +13,7 @@ use Rattle.terms.specs.declared.Answer.{Answer}
 use Rattle.terms.specs.declared.Answer.the-variants.{Number, Refused}
 use Rattle.terms.specs.declared.Verdict.the-variants.{Accepted}
 use Rattle.file.specs.File.{roadIn}
-use Rattle.file.specs.Operations.{readVerdict}
+use Rattle.file.specs.Reading.{readVerdict}
 use Rattle.marks.specs.Marks.{markFor}
 use Rattle.marks.specs.RoadFile.{ownHeights, markFileAnswer, markFileList}
 use Rattle.zones.specs.Zones.{zoneEnds, zoneCount, zonesAnswer, zonesList}

@@ -18,7 +18,7 @@ use Rattle.terms.specs.declared.Verdict.{Verdict}
 use Rattle.terms.specs.declared.Verdict.the-variants.{Accepted, Fault}
 use Rattle.road.proofs.Accepted.{accepted-road}
 use Rattle.file.specs.File.{roadIn, version}
-use Rattle.file.specs.Operations.{readVerdict}
+use Rattle.file.specs.Reading.{readVerdict}
 use Rattle.file.proofs.Sound.{accepted-file}
 use Rattle.marks.specs.Marks.{stoppingDistance, decisionDistance, markFor}
 use Rattle.marks.specs.RoadFile.{ownHeights, markFileAnswer, markFileList}

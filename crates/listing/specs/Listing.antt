@@ -12,7 +12,7 @@ use Rattle.terms.specs.declared.Answer.the-variants.{Number}
 use Rattle.terms.specs.declared.Verdict.{Verdict}
 use Rattle.terms.specs.declared.Verdict.the-variants.{Accepted, Fault}
 use Rattle.file.specs.File.{roadIn, version}
-use Rattle.file.specs.Operations.{readVerdict}
+use Rattle.file.specs.Reading.{readVerdict}
 use Rattle.marks.specs.Marks.{stoppingDistance, decisionDistance}
 use Rattle.marks.specs.RoadFile.{markFileList}
 use Rattle.zones.specs.Zones.{zoneEnds, zoneCount}

@@ -8,7 +8,7 @@ use Rattle.terms.specs.Limits.{greatestList}
 use Rattle.terms.proofs.Laws.{AtMost, refuse-at-most, unless-at-most}
 use Rattle.road.proofs.Accepted.{accepted-road}
 use Rattle.file.specs.File.{roadIn}
-use Rattle.file.specs.Operations.{readVerdict}
+use Rattle.file.specs.Reading.{readVerdict}
 use Rattle.file.proofs.Sound.{accepted-file, read-verdict-byte}
 use Rattle.marks.specs.RoadFile.{markFileAnswer}
 

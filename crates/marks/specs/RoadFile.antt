@@ -12,7 +12,7 @@ use Rattle.terms.specs.declared.Answer.the-variants.{Number}
 use Rattle.road.specs.declared.Road.{Road}
 use Rattle.heights.specs.Profile.{storedHeight}
 use Rattle.file.specs.File.{roadIn}
-use Rattle.file.specs.Operations.{readVerdict}
+use Rattle.file.specs.Reading.{readVerdict}
 use Rattle.marks.specs.Marks.{markFor}
 
 -- a road's own heights: a list of just the N + 1 stored ones

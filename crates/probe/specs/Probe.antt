@@ -9,7 +9,8 @@ use Rattle.terms.specs.declared.Verdict.{Verdict}
 use Rattle.terms.specs.declared.Verdict.the-variants.{Accepted, Fault}
 use Rattle.heights.specs.Heights.{heightsAnswer, heightsList}
 use Rattle.file.specs.File.{roadIn}
-use Rattle.file.specs.Operations.{readVerdict, writeAnswer, writeList}
+use Rattle.file.specs.Reading.{readVerdict}
+use Rattle.writing.specs.Writing.{writeAnswer, writeList}
 
 -- the list as it was where there is a fault, else as the rest says
 abbrev pub keptUnless : {A : Type 0} → Verdict → List A → List A → List A

@@ -18,7 +18,7 @@ pub extern "C" fn probe_rewrite(file: &[u8], out: &mut [u8]) -> i64
         return terms::signed_answer(Answer::Refused(number));
     }
     let road = read.road;
-    terms::signed_answer(file::write(road, out))
+    terms::signed_answer(writing::write(road, out))
 }
 
 #[no_mangle]

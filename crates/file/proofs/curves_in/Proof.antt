@@ -25,6 +25,9 @@ loop-holds c = (omega arith, refl)
 curve-at-requires : tie.Need-curve-at-requires Inv-loop μ-loop
 curve-at-requires c κs = search needs
 
+cast-curves : tie.Need-cast-curves Inv-loop μ-loop
+cast-curves c = search needs
+
 mul-curves : tie.Need-mul-curves Inv-loop μ-loop
 mul-curves c = search needs
 
@@ -53,6 +56,7 @@ curves-in-spec =
     μ-loop
     loop-holds
     curve-at-requires
+    cast-curves
     mul-curves
     array-set-from-curves
     add-k

@@ -11,7 +11,7 @@ use Rattle.terms.specs.Limits.{greatestCurveCount}
 use Rattle.terms.specs.Refusals.{shortFileRefused, lettersRefused, versionRefused, curveCountRefused, totalRefused}
 use Rattle.terms.specs.declared.Verdict.the-variants.{Fault}
 use Rattle.road.specs.Road.{roadVerdict}
-use Rattle.file.specs.Operations.{readVerdict}
+use Rattle.file.specs.Reading.{readVerdict}
 use Rattle.file.specs.File.{fileLength, curveCount, roadIn}
 use Rattle.file.proofs.Sound.{read-fault, read-accepted}
 use Rattle.file.proofs.read.Statement.{statement}
@@ -96,9 +96,6 @@ returns-4 c =
     c .refused4 .ensures
     ∙ sym (read-fault s curveCountRefused (past-version (c .before .before .before) ∙ simp (lt-ltb _ _ (c .before .if4 .taken))))
 
-cast-file-length : tie.Need-cast-file-length
-cast-file-length c = search needs
-
 file-length-requires : tie.Need-file-length-requires
 file-length-requires c κs = search needs
 
@@ -155,7 +152,6 @@ read-spec =
     shared-slice-read-count
     refused-requires-4
     returns-4
-    cast-file-length
     file-length-requires
     refused-requires-5
     returns-5

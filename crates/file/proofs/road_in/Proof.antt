@@ -9,23 +9,20 @@ use Rattle.file.proofs.road_in.Tie as tie
 shared-slice-read-curves-in : tie.Need-shared-slice-read-curves-in
 shared-slice-read-curves-in c = search needs
 
-cast-curves-in : tie.Need-cast-curves-in
-cast-curves-in c = search needs
-
 curves-in-requires : tie.Need-curves-in-requires
 curves-in-requires c κs = search needs
 
 shared-slice-read-t4 : tie.Need-shared-slice-read-t4
 shared-slice-read-t4 c = search needs
 
-shared-slice-read-t8 : tie.Need-shared-slice-read-t8
-shared-slice-read-t8 c = search needs
+shared-slice-read-t7 : tie.Need-shared-slice-read-t7
+shared-slice-read-t7 c = search needs
 
 u16-at-requires : tie.Need-u16-at-requires
 u16-at-requires c κs = search needs
 
-cast-t10 : tie.Need-cast-t10
-cast-t10 c = search needs
+cast-t9 : tie.Need-cast-t9
+cast-t9 c = search needs
 
 u32-at-requires : tie.Need-u32-at-requires
 u32-at-requires c κs = search needs
@@ -39,8 +36,8 @@ u16-at-requires-2 c κs = search needs
 signed16-requires : tie.Need-signed16-requires
 signed16-requires c κs = search needs
 
-shared-slice-read-t16 : tie.Need-shared-slice-read-t16
-shared-slice-read-t16 c = search needs
+shared-slice-read-t15 : tie.Need-shared-slice-read-t15
+shared-slice-read-t15 c = search needs
 
 returns : tie.Need-returns
 unfolding roadIn
@@ -54,15 +51,14 @@ road-in-spec =
     tie.close
     (tie.spec
     shared-slice-read-curves-in
-    cast-curves-in
     curves-in-requires
     shared-slice-read-t4
-    shared-slice-read-t8
+    shared-slice-read-t7
     u16-at-requires
-    cast-t10
+    cast-t9
     u32-at-requires
     signed32-requires
     u16-at-requires-2
     signed16-requires
-    shared-slice-read-t16
+    shared-slice-read-t15
     returns)

@@ -12,7 +12,7 @@ use Rattle.terms.specs.declared.Verdict.the-variants.{Accepted, Fault}
 use Rattle.road.specs.declared.Road.{Road}
 use Rattle.road.proofs.Accepted.{SoundRoad, accepted-road}
 use Rattle.file.specs.File.{roadIn}
-use Rattle.file.specs.Operations.{readVerdict}
+use Rattle.file.specs.Reading.{readVerdict}
 use Rattle.file.proofs.Sound.{accepted-file, verdict-read, road-read}
 use Rattle.listing.specs.Listing.{refusedLine, linesFor, ownMarks, listing}
 use Rattle.listing.proofs.Lent.{own-marks-front}

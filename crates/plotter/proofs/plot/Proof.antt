@@ -7,7 +7,7 @@ use lib.ListN.{length}
 use lib.Seq.{length-take-le}
 use Rattle.road.proofs.Accepted.{SoundRoad, accepted-road}
 use Rattle.file.specs.declared.ReadRoad.{ReadRoad}
-use Rattle.file.specs.Operations.{readVerdict, readRoad}
+use Rattle.file.specs.Reading.{readVerdict, readRoad}
 use Rattle.file.proofs.Sound.{accepted-file, read-accepted}
 use Rattle.plotter.proofs.plot.Statement.{statement}
 use Rattle.plotter.proofs.plot.Tie as tie

@@ -2,8 +2,8 @@
 use native.Mathlib.Omega.{arith}
 use mir.Syntax.{w32}
 use Rattle.whole.proofs.Twos.{read-turn-fits, negative-cast, negative-bits, natural-cast, natural-bits}
-use Rattle.file.proofs.bits32.Statement.{statement}
-use Rattle.file.proofs.bits32.Tie as tie
+use Rattle.writing.proofs.bits32.Statement.{statement}
+use Rattle.writing.proofs.bits32.Tie as tie
 
 sub-result : tie.Need-sub-result
 sub-result c = read-turn-fits w32 (c .before .args .number) (c .before .fits .number)

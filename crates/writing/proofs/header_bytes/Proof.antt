@@ -3,9 +3,9 @@ use borrow.Author.Needs.{needs}
 use mir.Syntax.{w16, w32}
 use mir.Val.{SFits}
 use Rattle.whole.proofs.Machine.{plain}
-use Rattle.file.specs.File.{headerBytes}
-use Rattle.file.proofs.header_bytes.Statement.{statement}
-use Rattle.file.proofs.header_bytes.Tie as tie
+use Rattle.writing.specs.Bytes.{headerBytes}
+use Rattle.writing.proofs.header_bytes.Statement.{statement}
+use Rattle.writing.proofs.header_bytes.Tie as tie
 
 bits32-requires : tie.Need-bits32-requires
 bits32-requires c κs = search needs

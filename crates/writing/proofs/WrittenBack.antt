@@ -20,8 +20,9 @@ use Rattle.road.specs.declared.Curve.{Curve}
 use Rattle.road.specs.declared.Road.{Road}
 use Rattle.road.specs.Road.{end, noCurve, curvesOf, curvesVerdict, roadVerdict}
 use Rattle.road.proofs.Accepted.{accepted-curve, accepted-road}
-use Rattle.file.specs.File.{byteAt, u16At, fileLength, curveAt, roadIn, headerBytes, curveBytes, fileBytes, SameRoad, cleared}
-use Rattle.file.proofs.Bytes.{from-bytes2, from-bytes4, file-curve}
+use Rattle.file.specs.File.{byteAt, u16At, fileLength, curveAt, roadIn}
+use Rattle.writing.specs.Bytes.{headerBytes, curveBytes, fileBytes, SameRoad, cleared}
+use Rattle.writing.proofs.Bytes.{from-bytes2, from-bytes4, file-curve}
 
 -- ---- numbers
 -- what lies between two numbers that fit a width fits it

@@ -13,9 +13,10 @@ use Rattle.whole.proofs.Fill.{filled-length, filled-at}
 use Rattle.whole.proofs.Twos.{bits-back}
 use Rattle.terms.specs.Limits.{greatestCurveCount}
 use Rattle.road.specs.Road.{noCurve}
-use Rattle.file.specs.File.{byteAt, u16At, u32At, fileLength, curveCount, curveAt, roadIn, bytes2, bytes4, headerBytes, curveBytes, fileBytes}
-use Rattle.file.proofs.Bytes.{to-bytes2, to-bytes4, file-length, file-header, file-curve}
+use Rattle.file.specs.File.{byteAt, u16At, u32At, fileLength, curveCount, curveAt, roadIn}
 use Rattle.file.proofs.Sound.{SoundFile}
+use Rattle.writing.specs.Bytes.{bytes2, bytes4, headerBytes, curveBytes, fileBytes}
+use Rattle.writing.proofs.Bytes.{to-bytes2, to-bytes4, file-length, file-header, file-curve}
 
 -- every element is a byte
 abbrev pub Bytes : List ℕ → Type 0

@@ -7,9 +7,9 @@ use native.Mathlib.Omega.{arith}
 use Rattle.terms.specs.declared.Verdict.the-variants.{Accepted}
 use Rattle.road.proofs.Accepted.{accepted-road}
 use Rattle.road.specs.Road.{roadVerdict}
-use Rattle.file.specs.Operations.{writeAnswer, writeList}
-use Rattle.file.proofs.write.Statement.{statement}
-use Rattle.file.proofs.write.Tie as tie
+use Rattle.writing.specs.Writing.{writeAnswer, writeList}
+use Rattle.writing.proofs.write.Statement.{statement}
+use Rattle.writing.proofs.write.Tie as tie
 
 -- the road is accepted where the match says so
 accepted : (c : tie.After-enum-told) → roadVerdict (c .before .before .before .before .args .road) ≡ Accepted
@@ -24,20 +24,17 @@ enum-known-verdict c = search needs
 enum-told : tie.Need-enum-told
 enum-told c = search needs
 
-cast-file-length : tie.Need-cast-file-length
-cast-file-length c = search needs
-
 file-length-requires : tie.Need-file-length-requires
-file-length-requires c κs = accepted-road _ (accepted (c .before)) .count
+file-length-requires c κs = search needs
 
 returns : tie.Need-returns
 unfolding writeAnswer writeList
 returns c =
     let short = rw (c .before .file-length .ensures) at (c .if1 .taken) in
-    simp (accepted (c .before .before .before), lt-ltb _ _ short) (refl, refl)
+    simp (accepted (c .before .before), lt-ltb _ _ short) (refl, refl)
 
 put-file-requires : tie.Need-put-file-requires
-put-file-requires c κs = (accepted-road _ (accepted (c .before .before .before .before)) .count, omega (arith, c .before .before .file-length .ensures))
+put-file-requires c κs = (accepted-road _ (accepted (c .before .before .before)) .count, omega (arith, c .before .before .file-length .ensures))
 
 cast-t12 : tie.Need-cast-t12
 cast-t12 c = search needs
@@ -56,7 +53,7 @@ unfolding writeAnswer writeList
 returns-3 c =
     let passed = c .before .before .before .before in
     let room = rw (passed .before .file-length .ensures) at (passed .if1 .left) in
-    simp (accepted (passed .before .before .before), le-ltb _ _ room, passed .before .file-length .ensures) (refl, c .before .before .put-file .ensures)
+    simp (accepted (passed .before .before), le-ltb _ _ room, passed .before .file-length .ensures) (refl, c .before .before .put-file .ensures)
 
 pub write-spec : {M : Type 1} → statement M
 write-spec =
@@ -65,7 +62,6 @@ write-spec =
     verdict-requires
     enum-known-verdict
     enum-told
-    cast-file-length
     file-length-requires
     returns
     put-file-requires

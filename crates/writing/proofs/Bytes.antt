@@ -10,7 +10,8 @@ use lib.Seq.{getD-append-add, getD-take, length-take-le}
 use Rattle.road.specs.declared.Curve.{Curve}
 use Rattle.road.specs.declared.Road.{Road}
 use Rattle.road.specs.Road.{noCurve, curvesOf}
-use Rattle.file.specs.File.{byteAt, fileLength, bytes2, bytes4, headerBytes, curveBytes, recordBytes, fileBytes}
+use Rattle.file.specs.File.{byteAt, fileLength}
+use Rattle.writing.specs.Bytes.{bytes2, bytes4, headerBytes, curveBytes, recordBytes, fileBytes}
 
 -- ---- numbers and their bytes
 -- a number of 16 bits is its two bytes, one of 32 bits its four

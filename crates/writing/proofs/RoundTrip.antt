@@ -15,12 +15,14 @@ use Rattle.terms.specs.declared.Verdict.the-variants.{Accepted}
 use Rattle.road.specs.declared.Road.{Road}
 use Rattle.road.specs.Road.{roadVerdict}
 use Rattle.road.proofs.Accepted.{accepted-road}
-use Rattle.file.specs.File.{byteAt, fileLength, roadIn, headerBytes, fileBytes, SameRoad, cleared}
-use Rattle.file.specs.Operations.{readVerdict, readRoad, writeAnswer, writeList}
-use Rattle.file.proofs.Bytes.{file-length}
+use Rattle.file.specs.File.{byteAt, fileLength, roadIn}
+use Rattle.file.specs.Reading.{readVerdict, readRoad}
 use Rattle.file.proofs.Sound.{accepted-file, sound-file, read-accepted}
-use Rattle.file.proofs.ReadBack.{Bytes, count-in, used-in, read-back}
-use Rattle.file.proofs.WrittenBack.{used, road-back, same-verdict, cleared-same}
+use Rattle.writing.specs.Bytes.{headerBytes, fileBytes, SameRoad, cleared}
+use Rattle.writing.specs.Writing.{writeAnswer, writeList}
+use Rattle.writing.proofs.Bytes.{file-length}
+use Rattle.writing.proofs.ReadBack.{Bytes, count-in, used-in, read-back}
+use Rattle.writing.proofs.WrittenBack.{used, road-back, same-verdict, cleared-same}
 
 -- ---- what writing leaves at the front of a buffer with room
 take-filled : (l xs : List ℕ) (n : ℕ) → length l ≡ n → n ≤ length xs → take n (filled (byteAt l) 0 n xs) ≡ l

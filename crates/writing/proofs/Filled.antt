@@ -8,8 +8,9 @@ use Rattle.whole.specs.Fill.{filled}
 use Rattle.whole.proofs.Fill.{filled-cong, filled-join}
 use Rattle.road.specs.declared.Road.{Road}
 use Rattle.road.specs.Road.{noCurve}
-use Rattle.file.specs.File.{byteAt, fileLength, headerBytes, curveBytes, fileBytes}
-use Rattle.file.proofs.Bytes.{header-length, curve-length, file-header, file-curve}
+use Rattle.file.specs.File.{byteAt, fileLength}
+use Rattle.writing.specs.Bytes.{headerBytes, curveBytes, fileBytes}
+use Rattle.writing.proofs.Bytes.{header-length, curve-length, file-header, file-curve}
 
 -- the header, in the first 16 places
 pub header-filled : (r : Road) (bytes entry after : List ℕ) → bytes ≡ headerBytes r →

@@ -9,11 +9,12 @@ use denote.Ref.{now}
 use Rattle.whole.specs.Fill.{filled}
 use Rattle.whole.proofs.Fill.{filled-join, filled-length}
 use Rattle.road.proofs.Places.{curve-places}
-use Rattle.file.specs.File.{byteAt, fileBytes}
-use Rattle.file.proofs.Bytes.{curve-length}
-use Rattle.file.proofs.Filled.{header-filled, record-filled}
-use Rattle.file.proofs.put_file.Statement.{statement}
-use Rattle.file.proofs.put_file.Tie as tie
+use Rattle.file.specs.File.{byteAt}
+use Rattle.writing.specs.Bytes.{fileBytes}
+use Rattle.writing.proofs.Bytes.{curve-length}
+use Rattle.writing.proofs.Filled.{header-filled, record-filled}
+use Rattle.writing.proofs.put_file.Statement.{statement}
+use Rattle.writing.proofs.put_file.Tie as tie
 
 abbrev Inv-loop : tie.InvT-loop
 Inv-loop buffer₀ road k₀ k-end buffer k = (k ≤ k-end) × (buffer ≡ filled (byteAt (fileBytes road)) 16 (6 * k) buffer₀)
@@ -35,12 +36,12 @@ slice-aggregate-put c = search needs
 put-requires : tie.Need-put-requires Inv-loop μ-loop
 put-requires c κs = search needs
 
-cast-k-end : tie.Need-cast-k-end Inv-loop μ-loop
-cast-k-end c = search needs
-
 loop-holds : tie.Need-loop-holds Inv-loop μ-loop
 unfolding filled
 loop-holds c = (omega arith, refl)
+
+cast-curve : tie.Need-cast-curve Inv-loop μ-loop
+cast-curve c = search needs
 
 mul-curve : tie.Need-mul-curve Inv-loop μ-loop
 mul-curve c = search needs
@@ -100,8 +101,8 @@ put-file-spec =
     header-bytes-requires
     slice-aggregate-put
     put-requires
-    cast-k-end
     loop-holds
+    cast-curve
     mul-curve
     element-copy-out-curve
     curve-bytes-requires

@@ -3,9 +3,9 @@ use borrow.Author.Needs.{needs}
 use mir.Syntax.{w16}
 use mir.Val.{SFits}
 use Rattle.whole.proofs.Machine.{plain}
-use Rattle.file.specs.File.{curveBytes}
-use Rattle.file.proofs.curve_bytes.Statement.{statement}
-use Rattle.file.proofs.curve_bytes.Tie as tie
+use Rattle.writing.specs.Bytes.{curveBytes}
+use Rattle.writing.proofs.curve_bytes.Statement.{statement}
+use Rattle.writing.proofs.curve_bytes.Tie as tie
 
 cast-length : tie.Need-cast-length
 cast-length c = search needs

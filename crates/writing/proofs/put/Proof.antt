@@ -7,9 +7,9 @@ use lib.ListN.{length}
 use denote.Ref.{now}
 use Rattle.whole.specs.Fill.{filled}
 use Rattle.whole.proofs.Fill.{filled-more, filled-length}
 use Rattle.file.specs.File.{byteAt}
-use Rattle.file.proofs.put.Statement.{statement}
-use Rattle.file.proofs.put.Tie as tie
+use Rattle.writing.proofs.put.Statement.{statement}
+use Rattle.writing.proofs.put.Tie as tie
 
 abbrev Inv-loop : tie.InvT-loop
 Inv-loop buffer₀ at bytes k₀ k-end buffer k = (k ≤ length bytes) × (buffer ≡ filled (λ (j : ℕ). byteAt bytes (j - at)) at k buffer₀)

@@ -1,20 +1,18 @@
--- Document 01, "Road file": reading and writing.
+-- Document 01, "Road file": reading.
 use Prim.Native.Nat.{ℕ}
 use mathlib.Core.Bool.{Bool, not, _||_}
 use mathlib.Core.List.{List}
 use lib.Dec.{ltb, eqb}
 use lib.ListN.{length, getD}
-use Rattle.terms.specs.Answers.{fault, unless, refuse, written}
+use Rattle.terms.specs.Answers.{fault}
 use Rattle.terms.specs.Limits.{greatestCurveCount}
-use Rattle.terms.specs.Refusals.{shortFileRefused, lettersRefused, versionRefused, curveCountRefused, totalRefused, roomRefused}
-use Rattle.terms.specs.declared.Answer.{Answer}
-use Rattle.terms.specs.declared.Answer.the-variants.{Number}
+use Rattle.terms.specs.Refusals.{shortFileRefused, lettersRefused, versionRefused, curveCountRefused, totalRefused}
 use Rattle.terms.specs.declared.Verdict.{Verdict}
 use Rattle.terms.specs.declared.Verdict.the-variants.{Accepted, Fault}
 use Rattle.road.specs.declared.Road.{Road}
 use Rattle.road.specs.Road.{roadVerdict}
 use Rattle.file.specs.declared.ReadRoad.{ReadRoad}
-use Rattle.file.specs.File.{byteAt, u16At, fileLength, curveCount, roadIn, noRoad, letters, version, fileBytes}
+use Rattle.file.specs.File.{byteAt, u16At, fileLength, curveCount, roadIn, noRoad, letters, version}
 
 -- byte k is not letter k of VCP
 abbrev pub differs : List ℕ → ℕ → Bool
@@ -39,13 +37,3 @@ given (Fault k) r = noRoad
 -- the verdict and beside it the file's road, all zero where it is refused
 unfoldable pub readRoad : List ℕ → ReadRoad
 readRoad s = record { verdict = readVerdict s; road = given (readVerdict s) (roadIn s) }
-
--- writing: refused as the road is, then 14; else how many bytes are written
-unfoldable pub writeAnswer : Road → List ℕ → Answer
-writeAnswer r buffer =
-    unless (roadVerdict r)
-    (refuse (ltb (length buffer) (fileLength (r .count))) roomRefused (Number (fileLength (r .count))))
-
--- the file's bytes from byte 0 on, bytes beyond stay; where it is refused all stay
-unfoldable pub writeList : Road → List ℕ → List ℕ
-writeList r buffer = written (byteAt (fileBytes r)) (writeAnswer r buffer) buffer

@@ -1,0 +1,5 @@
+pub mod Bytes
+pub mod Filled
+pub mod ReadBack
+pub mod WrittenBack
+pub mod RoundTrip

@@ -1,0 +1,23 @@
+-- Document 01, "Road file": writing.
+use Prim.Native.Nat.{ℕ}
+use mathlib.Core.List.{List}
+use lib.Dec.{ltb}
+use lib.ListN.{length}
+use Rattle.terms.specs.Answers.{unless, refuse, written}
+use Rattle.terms.specs.Refusals.{roomRefused}
+use Rattle.terms.specs.declared.Answer.{Answer}
+use Rattle.terms.specs.declared.Answer.the-variants.{Number}
+use Rattle.road.specs.declared.Road.{Road}
+use Rattle.road.specs.Road.{roadVerdict}
+use Rattle.file.specs.File.{byteAt, fileLength}
+use Rattle.writing.specs.Bytes.{fileBytes}
+
+-- writing: refused as the road is, then 14; else how many bytes are written
+unfoldable pub writeAnswer : Road → List ℕ → Answer
+writeAnswer r buffer =
+    unless (roadVerdict r)
+    (refuse (ltb (length buffer) (fileLength (r .count))) roomRefused (Number (fileLength (r .count))))
+
+-- the file's bytes from byte 0 on, bytes beyond stay; where it is refused all stay
+unfoldable pub writeList : Road → List ℕ → List ℕ
+writeList r buffer = written (byteAt (fileBytes r)) (writeAnswer r buffer) buffer
