@@ -91,7 +91,7 @@ fn signed32(bits: u32) -> i32
 
 // Record k: PVI, length, grade out.
 fn curve_at(file: &[u8], k: u8) -> Curve
-    requires { ⌜ (k < greatestCurveCount) × (fileLength (k + 1) ≤ length (now file)) ⌝ }
+    requires { ⌜ fileLength (k + 1) ≤ length (now file) ⌝ }
     ensures { λ r. ⌜ r ≡ curveAt (now (file .entry)) k ⌝ }
 {
     let at = file_length(k);
