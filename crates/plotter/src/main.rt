@@ -1,5 +1,5 @@
 // The plotter: reads a road file on standard input and writes a picture of its profile, as SVG, to standard output. Every
-// coordinate that depends on the road comes from `picture`; the constants here are places on the sheet.
+// coordinate that depends on the road comes from `picture` and `upright`; the constants here are places on the sheet.
 ghost use Prim.Native.Nat.{_*_, _≤_};
 ghost use lib.ListN.{length};
 ghost use Rattle.terms.specs.Limits.{greatestRoad, greatestList};
@@ -65,7 +65,7 @@ fn view_of(heights: &[i32], length: u32) -> View
     let mut low = HIGHEST;
     let mut high: u64 = 0;
     for i in 0..heights.len() {
-        let height = picture::lift(heights[i]);
+        let height = upright::lift(heights[i]);
         if height < low {
             low = height;
         }
@@ -74,7 +74,7 @@ fn view_of(heights: &[i32], length: u32) -> View
         }
     }
     let range = if high < low { 0 } else { high - low };
-    let foot = picture::foot(low, length, range);
+    let foot = upright::foot(low, length, range);
     View {
         length,
         range,
@@ -89,7 +89,7 @@ fn x_of(view: View, station: u32) -> u64 {
 
 // y of a height.
 fn y_of(view: View, height: u64) -> u64 {
-    picture::down(height, view.foot, view.length, view.range)
+    upright::down(height, view.foot, view.length, view.range)
 }
 
 // ---- the sheet
@@ -120,7 +120,7 @@ fn headings(view: View, speed: u32, purpose: u32) {
     let length = view.length as u64;
     let stopping = terms::value_or_zero(distance::required_distance(speed, terms::STOPPING));
     let decision = terms::value_or_zero(distance::required_distance(speed, purpose));
-    let exaggeration = picture::exaggeration(view.length, view.range);
+    let exaggeration = upright::exaggeration(view.length, view.range);
     draw(
         b"<title>Sight along the road, @ m</title>
 <text class=\"title\" x=\"1500\" y=\"4200\">Sight along the road, @ m</text>
@@ -147,7 +147,7 @@ fn points(view: View, heights: &[i32])
 {
     for i in 0..heights.len() {
         let x = x_of(view, i as u32);
-        let y = y_of(view, picture::lift(heights[i]));
+        let y = y_of(view, upright::lift(heights[i]));
         draw(b" @,@", &[x, y]);
     }
 }
@@ -198,7 +198,7 @@ fn columns(view: View, marks: &[u8], bit: u32, open: &[u8], close: &[u8]) {
     let mut ends = [0u16; ENDS];
     let count = find_zones(marks, bit, &mut ends);
     text(open);
-    bars(view, &ends, count, picture::TOP, picture::HEIGHT);
+    bars(view, &ends, count, upright::TOP, upright::HEIGHT);
     text(close);
 }
 
@@ -248,7 +248,7 @@ fn station_tick(view: View, station: u32) {
 
 // The stations in round steps, and the last one where there is room for its number.
 fn station_axis(view: View) {
-    let step = picture::step(view.length as u64, STATION_STEPS);
+    let step = upright::step(view.length as u64, STATION_STEPS);
     for k in 0..STATION_STEPS + 1 {
         let station = k as u64 * step as u64;
         if station <= view.length as u64 {
@@ -283,11 +283,11 @@ fn height_tick(view: View, height: u64, step: u64) {
         b"<path class=\"grid\" d=\"M22000 @H150000\"/><text class=\"height\" x=\"21200\" dy=\"450\" y=\"@\">",
         &[y, y],
     );
-    let size = if height < picture::ZERO_HEIGHT {
+    let size = if height < upright::ZERO_HEIGHT {
         text(b"&#8722;");
-        picture::ZERO_HEIGHT - height
+        upright::ZERO_HEIGHT - height
     } else {
-        height - picture::ZERO_HEIGHT
+        height - upright::ZERO_HEIGHT
     };
     draw(b"@", &[size / 10000]);
     decimals(size % 10000, step);
@@ -298,8 +298,8 @@ fn height_tick(view: View, height: u64, step: u64) {
 fn height_axis(view: View)
     requires { ⌜ view .foot ≤ 6000000000 ⌝ }
 {
-    let shown = picture::shown(view.length, view.range);
-    let step = picture::step(shown, HEIGHT_STEPS) as u64;
+    let shown = upright::shown(view.length, view.range);
+    let step = upright::step(shown, HEIGHT_STEPS) as u64;
     let first = view.foot / step;
     for k in 0..HEIGHT_STEPS + 2 {
         let height = (first + k as u64) * step;
@@ -369,7 +369,7 @@ fn curve(view: View, heights: &[i32], c: Curve, crest: bool) {
     let x = x_of(view, c.pvi);
     let at = c.pvi as usize;
     if at < heights.len() {
-        let y = y_of(view, picture::lift(heights[at]));
+        let y = y_of(view, upright::lift(heights[at]));
         draw(b"<path class=\"pvi\" d=\"M@ 13200V@\"/>\n", &[x, y]);
     }
     if c.length == 0 {

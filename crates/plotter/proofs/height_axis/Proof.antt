@@ -4,7 +4,7 @@ use Prim.Native.Nat.{ℕ, _/_, _≤_, _<_, _-_, _+_}
 use native.Mathlib.Nat.{mul-le-mul, div-le-self}
 use borrow.Author.Needs.{needs}
 use native.Mathlib.Omega.{arith}
-use Rattle.picture.proofs.Laws.{step-positive, step-at-most}
+use Rattle.upright.proofs.Laws.{step-positive, step-at-most}
 use Rattle.plotter.proofs.height_axis.Statement.{statement}
 use Rattle.plotter.proofs.height_axis.Tie as tie
 

@@ -3,7 +3,7 @@ use native.Mathlib.Nat.{mul-le-mul}
 use Prim.Native.Nat.{_≤_, _-_}
 use borrow.Author.Needs.{needs}
 use native.Mathlib.Omega.{arith}
-use Rattle.picture.proofs.Laws.{step-positive}
+use Rattle.upright.proofs.Laws.{step-positive}
 use Rattle.plotter.proofs.station_axis.Statement.{statement}
 use Rattle.plotter.proofs.station_axis.Tie as tie
 

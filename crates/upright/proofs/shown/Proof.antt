@@ -1,9 +1,9 @@
 -- `shown` meets its contract: no exaggeration is 0.
 use native.Mathlib.Omega.{arith}
 use borrow.Author.Needs.{needs}
-use Rattle.picture.proofs.Laws.{exaggeration-stretch}
-use Rattle.picture.proofs.shown.Statement.{statement}
-use Rattle.picture.proofs.shown.Tie as tie
+use Rattle.upright.proofs.Laws.{exaggeration-stretch}
+use Rattle.upright.proofs.shown.Statement.{statement}
+use Rattle.upright.proofs.shown.Tie as tie
 
 exaggeration-requires : tie.Need-exaggeration-requires
 exaggeration-requires c κs = search needs

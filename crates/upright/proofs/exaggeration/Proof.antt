@@ -8,10 +8,10 @@ use borrow.Author.Needs.{needs}
 use borrow.Author.Tests.{le-leb, lt-leb}
 use lib.Dec.{leb}
 use lib.ListN.{drop}
-use Rattle.picture.specs.Picture.{profileRoom, firstThat, showing, exaggerations, exaggeration}
-use Rattle.picture.proofs.Laws.{first-found, first-later, stretch-at}
-use Rattle.picture.proofs.exaggeration.Statement.{statement}
-use Rattle.picture.proofs.exaggeration.Tie as tie
+use Rattle.upright.specs.Upright.{profileRoom, firstThat, showing, exaggerations, exaggeration}
+use Rattle.upright.proofs.Laws.{first-found, first-later, stretch-at}
+use Rattle.upright.proofs.exaggeration.Statement.{statement}
+use Rattle.upright.proofs.exaggeration.Tie as tie
 
 -- the profile finds room at e
 abbrev fits : ℕ → ℕ → ℕ → Bool

@@ -4,9 +4,9 @@ use Prim.Native.Nat.{_≤_, _*_}
 use native.Mathlib.Nat.{mul-le-mul}
 use native.Mathlib.Omega.{arith}
 use borrow.Author.Needs.{needs}
-use Rattle.picture.specs.Picture.{showing}
-use Rattle.picture.proofs.showing.Statement.{statement}
-use Rattle.picture.proofs.showing.Tie as tie
+use Rattle.upright.specs.Upright.{showing}
+use Rattle.upright.proofs.showing.Statement.{statement}
+use Rattle.upright.proofs.showing.Tie as tie
 
 lengths : (c : tie.Start) → c .args .length * 10000 ≤ 42949672950000
 lengths c = search needs

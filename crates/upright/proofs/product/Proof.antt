@@ -3,8 +3,8 @@ use Prim.Native.Nat.{ℕ, _≤_, _<_}
 use native.Mathlib.Nat.{mul-le-mul}
 use native.Mathlib.Omega.{arith}
 use borrow.Author.Needs.{needs}
-use Rattle.picture.proofs.product.Statement.{statement}
-use Rattle.picture.proofs.product.Tie as tie
+use Rattle.upright.proofs.product.Statement.{statement}
+use Rattle.upright.proofs.product.Tie as tie
 
 small : (n : ℕ) → n < 4294967296 → n ≤ 4294967295
 small n h = omega arith

@@ -4,10 +4,10 @@ use Prim.Native.Nat.{_*_, _-_, _/_, _≤_, min}
 use native.Mathlib.Nat.{min-le-right, div-zero}
 use native.Mathlib.Omega.{arith}
 use borrow.Author.Needs.{needs}
-use Rattle.picture.specs.Picture.{shown, down}
-use Rattle.picture.proofs.Laws.{drawn-above, drawn-within}
-use Rattle.picture.proofs.down.Statement.{statement}
-use Rattle.picture.proofs.down.Tie as tie
+use Rattle.upright.specs.Upright.{shown, down}
+use Rattle.upright.proofs.Laws.{drawn-above, drawn-within}
+use Rattle.upright.proofs.down.Statement.{statement}
+use Rattle.upright.proofs.down.Tie as tie
 
 above-is : (c : tie.After-exaggeration) →
     let a = c .before .before .before .before .before .args in

@@ -8,10 +8,10 @@ use borrow.Author.Needs.{needs}
 use borrow.Author.Tests.{le-leb, lt-leb}
 use lib.Dec.{leb}
 use lib.ListN.{drop}
-use Rattle.picture.specs.Picture.{firstThat, steps, step}
-use Rattle.picture.proofs.Laws.{first-found, first-later}
-use Rattle.picture.proofs.step.Statement.{statement}
-use Rattle.picture.proofs.step.Tie as tie
+use Rattle.upright.specs.Upright.{firstThat, steps, step}
+use Rattle.upright.proofs.Laws.{first-found, first-later}
+use Rattle.upright.proofs.step.Statement.{statement}
+use Rattle.upright.proofs.step.Tie as tie
 
 -- the step covers the span
 abbrev covers : ℕ → ℕ → ℕ → Bool

@@ -1,10 +1,10 @@
 -- Laws of the picture's geometry: a search through a table goes on behind each number that fails its test, and a height that
 -- is shown is drawn within the plot.
-use Prim.Native.Nat.{ℕ, zero, suc, _+_, _*_, _-_, _/_, _≤_, _<_, min}
-use mathlib.Core.Path.{_≡_, refl, _∙_}
+use Prim.Native.Nat.{ℕ, zero, suc, _+_, _*_, _-_, _/_, _≤_, _<_}
+use mathlib.Core.Path.{_≡_, refl}
 use mathlib.Core.Bool.{Bool, true, false, cond}
 use mathlib.Core.List.{List, [], _∷_}
-use native.Mathlib.Nat.{mul-le-mul-left, mul-div-le, div-le-of-le-mul, min-le-right}
+use native.Mathlib.Nat.{mul-le-mul-left, mul-div-le, div-le-of-le-mul}
 use native.Mathlib.Numerals.{add-one}
 use native.Mathlib.Omega.{arith}
 use lib.Dec.{T}
@@ -15,7 +15,8 @@ use lib.Signed.{nonNeg}
 use mir.Syntax.{w32}
 use mir.Val.{SFits}
 use Rattle.whole.proofs.Int.{var, nat, add, eq-by}
-use Rattle.picture.specs.Picture.{plotWidth, plotHeight, firstThat, showing, exaggerations, exaggeration, shown, steps, step}
+use Rattle.picture.specs.Picture.{plotWidth}
+use Rattle.upright.specs.Upright.{plotHeight, firstThat, showing, exaggerations, exaggeration, shown, steps, step}
 
 -- ---- a search through a table
 module _ (test : ℕ → Bool) (xs : List ℕ) (other i : ℕ) (l : i < length xs) where

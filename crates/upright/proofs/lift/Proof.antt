@@ -6,10 +6,10 @@ use lib.Signed.{natAbs-le}
 use mir.Syntax.{w32, w64}
 use mir.Val.{toZ, ofZ}
 use Rattle.whole.proofs.Range.{Reads, add-size, leafR, countR, fits-by, same-by, sizes, reads as reading}
-use Rattle.picture.specs.Picture.{lifted}
-use Rattle.picture.proofs.Laws.{lifted-natural}
-use Rattle.picture.proofs.lift.Statement.{statement}
-use Rattle.picture.proofs.lift.Tie as tie
+use Rattle.upright.specs.Upright.{lifted}
+use Rattle.upright.proofs.Laws.{lifted-natural}
+use Rattle.upright.proofs.lift.Statement.{statement}
+use Rattle.upright.proofs.lift.Tie as tie
 
 abbrev height : (s : tie.Start) → Reads (toZ w32 (ofZ w32 (s .args .height))) (s .args .height)
 height s = leafR w32 (s .fits .height)
