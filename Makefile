@@ -31,14 +31,19 @@ test: tools
 list: given target/bin/lister
 	target/bin/lister < "$(ROAD)"
 
-# Draws a road's profile and zones. A refused file leaves no picture.
+# Draws a road's profile and zones. A refused file leaves the picture as it was.
 plot: given target/bin/plotter
-	mkdir -p "$(dir $(PLOT))"
-	target/bin/plotter < "$(ROAD)" > "$(PLOT)"
-	case $$(head -c 4 "$(PLOT)") in
-	'<svg') echo "$(PLOT)" ;;
-	*) cat "$(PLOT)"; rm -f "$(PLOT)"; exit 1 ;;
+	$(call need,[ ! "$(PLOT)" -ef "$(ROAD)" ],PLOT is the road file itself)
+	drawn=$$(mktemp)
+	trap 'rm -f "$$drawn"' EXIT
+	target/bin/plotter < "$(ROAD)" > "$$drawn"
+	case $$(head -c 4 "$$drawn") in
+	'<svg') ;;
+	*) cat "$$drawn"; exit 1 ;;
 	esac
+	mkdir -p "$$(dirname "$(PLOT)")"
+	cat "$$drawn" > "$(PLOT)"
+	echo "$(PLOT)"
 
 # Prints the text of a road file (rust/roadtext).
 text: given tools target/staticlib/libvan.a
@@ -65,7 +70,7 @@ bench: tools target/staticlib/libvan.a target/staticlib/libprobe.a
 
 # Proves and builds a program, or a library for Rust, where what it is made from has changed.
 target/bin/%: $(SOURCES)
-	$(call need,command -v rt,rt is not on the path: install $(KIT))
+	$(kit)
 	$(call quietly,rt check $*)
 
 target/staticlib/lib%.a: $(SOURCES) | tools
@@ -83,9 +88,10 @@ endef
 # $(call need,TEST,MESSAGE): where the shell's test fails, make stops with the message.
 need = $(if $(shell ($1) >/dev/null 2>&1 && echo holds),,$(error $2))
 
+kit = $(call need,[ "$$(rt version)" = "$(KIT)" ],rt is not on the path or of another kit: install $(KIT))
+
 tools:
-	$(call need,command -v rt,rt is not on the path: install $(KIT))
-	$(call need,[ "$$(rt version)" = "$(KIT)" ],rt is of another kit: install $(KIT))
+	$(kit)
 	$(call need,command -v cargo,cargo is not on the path: install Rust)
 
 fmt:
