@@ -1,15 +1,16 @@
 -- Laws of the required distance: what rounding up to 5 m is, and how large its numbers are.
 use mathlib.Core.Path.{_≡_, ap}
 use mathlib.Core.Bool.{Bool, true, false, cond}
-use Prim.Native.Nat.{ℕ, zero, suc, _+_, _*_, _-_, _≤_, _<_}
+use Prim.Native.Nat.{ℕ, _+_, _*_, _-_, _≤_, _<_}
 use native.Mathlib.Nat.{mul-le-mul, div-mul-le-self, lt-div-mul-add, div-eq-of-lt-le}
 use native.Mathlib.Omega.{arith}
 use lib.Dec.{ltb}
+use Rattle.whole.proofs.Table.{each-at}
 use Rattle.terms.specs.Answers.{outside}
 use Rattle.terms.specs.Limits.{leastSpeed, greatestSpeed, lastPurpose}
 use Rattle.terms.proofs.Laws.{AtMost, refuse-at-most, inside}
 use Rattle.distance.specs.declared.Purpose.{Purpose}
-use Rattle.distance.specs.Distance.{purposeRow, metreParts, levelParts, upToFive, requiredDistance}
+use Rattle.distance.specs.Distance.{purposes, purposeRow, metreParts, levelParts, upToFive, requiredDistance}
 
 -- ---- rounding up to 5 m
 module _ (num den : ℕ) (l : 0 < den) where
@@ -30,13 +31,7 @@ up-to-five-exact k den l = ap (λ (n : ℕ). 5 * n) (div-eq-of-lt-le (5 * den) (
 
 -- ---- sizes
 pub reaction-small : (p : ℕ) → purposeRow p .reaction ≤ 145
-reaction-small zero = omega arith
-reaction-small (suc zero) = omega arith
-reaction-small (suc (suc zero)) = omega arith
-reaction-small (suc (suc (suc zero))) = omega arith
-reaction-small (suc (suc (suc (suc zero)))) = omega arith
-reaction-small (suc (suc (suc (suc (suc zero))))) = omega arith
-reaction-small (suc (suc (suc (suc (suc (suc p)))))) = omega arith
+reaction-small p = each-at (λ (row : Purpose). row .reaction ≤ 145) purposes p _ (omega arith) (λ _. omega arith)
 
 cond-small : (b : Bool) {n k : ℕ} → n ≤ k → cond b n 0 ≤ k
 cond-small true h = h

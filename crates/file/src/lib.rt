@@ -34,9 +34,12 @@ const FIRST_GRADE_AT: usize = 13;
 
 const COUNT_AT: usize = 15;
 
-const HEADER_BYTES: usize = 16;
+pub const HEADER_BYTES: usize = 16;
 
-const CURVE_BYTES: usize = 6;
+pub const CURVE_BYTES: usize = 6;
+
+// One byte more than the longest road file has. It is enough to read: a longer file is refused as its first so many bytes are.
+pub const ENOUGH_BYTES: usize = HEADER_BYTES + CURVE_BYTES * road::CURVE_PLACES + 1;
 
 // The version that is read and written.
 pub const VERSION: u16 = 1;
@@ -109,11 +112,11 @@ const NO_CURVE: Curve = Curve {
 };
 
 // Records 0 to n - 1, and zero in the other curve places.
-fn curves_in(file: &[u8], n: u8) -> [Curve; terms::CURVE_PLACES]
+fn curves_in(file: &[u8], n: u8) -> [Curve; road::CURVE_PLACES]
     requires { ⌜ (n ≤ greatestCurveCount) × (fileLength n ≤ length (now file)) ⌝ }
     ensures { λ r. ⌜ r ≡ filled (curveAt (now (file .entry))) 0 n (replicate greatestCurveCount noCurve) ⌝ }
 {
-    let mut curves = [NO_CURVE; terms::CURVE_PLACES];
+    let mut curves = [NO_CURVE; road::CURVE_PLACES];
     for k in 0..n {
         curves[k as usize] = curve_at(file, k);
     }
@@ -144,7 +147,7 @@ const NO_ROAD: Road = Road {
     start_height: 0,
     first_grade: 0,
     count: 0,
-    curves: [NO_CURVE; terms::CURVE_PLACES],
+    curves: [NO_CURVE; road::CURVE_PLACES],
 };
 
 // What reading answers to a file that is refused.

@@ -1,22 +1,19 @@
 -- Laws of a walk along the profile: how far from zero its heights can be, and what the exact profile is on a straight, on a
 -- curve and past its end.
-use Prim.Native.Nat.{ℕ, zero, suc, _+_, _*_, _-_, _≤_, _<_}
+use Prim.Native.Nat.{ℕ, _+_, _*_, _-_, _≤_, _<_}
 use mathlib.Core.Path.{_≡_, refl, sym, ap, _∙_}
-use mathlib.Core.Bool.{true}
 use mathlib.Core.List.{List, [], _∷_}
 use borrow.Author.Tests.{le-leb, lt-leb}
-use native.Mathlib.Nat.{mul-le-mul-left, div-lt-iff-lt-mul, div-le-of-le-mul}
+use native.Mathlib.Nat.{mul-le-mul-left}
 use native.Mathlib.Omega.{arith}
-use lib.IntN.{ℤ, pos, negsuc, natAbs, negℤ, _+ℤ_, _-ℤ_, _*ℤ_}
-use lib.Signed.{_≤ℤ_}
-use mir.Syntax.{Width, w16, w32}
+use lib.IntN.{ℤ, pos, natAbs, negℤ, _+ℤ_, _-ℤ_, _*ℤ_}
+use mir.Syntax.{w16, w32}
 use mir.Val.{toZ, ofZ}
 use Rattle.whole.specs.Fill.{filled}
 use Rattle.whole.specs.Floor.{whole, floorDiv, floor}
-use Rattle.whole.proofs.Fill.{filled-cong, filled-join}
-use Rattle.whole.proofs.Floor.{floor-plus, floor-whole}
-use Rattle.whole.proofs.Int.{nat, var, neg, le-to}
-use Rattle.whole.proofs.Range.{Reads, readR, add-size, neg-size, mul-size}
+use Rattle.whole.proofs.Fill.{filled-then}
+use Rattle.whole.proofs.Floor.{floor-plus, floor-whole, floor-size-by}
+use Rattle.whole.proofs.Range.{Reads, knownR, add-size, neg-size, mul-size, range-size}
 use Rattle.terms.specs.Limits.{highestStart, greatestGrade, greatestRoad}
 use Rattle.road.specs.declared.Curve.{Curve}
 use Rattle.road.specs.Road.{begin, end, half}
@@ -30,10 +27,6 @@ use Rattle.heights.specs.Walk.{Near, Mild, heightAlong, heightOver, exac
 abbrev heightBound : ℕ
 heightBound = natAbs highestStart + greatestGrade * greatestRoad
 
--- a signed number of a known size, as the machine reads it
-abbrev knownR : (w : Width) (z : ℤ) (b : ℕ) → natAbs z ≤ b → Reads (toZ w (ofZ w z)) z
-knownR w z b h = readR w record { size = record { b = b; ok = h }; good = true; same = λ t. refl }
-
 -- the grade and the height of a walk, and a curve's grade out, as it reads them
 abbrev pub grade-read : {at : Walk} → Near at → Reads (toZ w16 (ofZ w16 (at .grade))) (at .grade)
 grade-read {at} near = knownR w16 (at .grade) greatestGrade (near .grade-size)
@@ -43,11 +36,6 @@ height-read {at} near l = knownR w32 (at .height) heightBound (omega (arith, nea
 
 abbrev pub out-read : {c : Curve} → Mild c → Reads (toZ w16 (ofZ w16 (c .«grade_out»))) (c .«grade_out»)
 out-read {c} mild = knownR w16 (c .«grade_out») greatestGrade (mild .grade-size)
-
--- a number in a range that reaches no farther down than up
-pub range-size : {a b : ℕ} (z : ℤ) → a ≤ b → negℤ (pos a) ≤ℤ z → z ≤ℤ pos b → natAbs z ≤ b
-range-size {b} (pos n) l low high = omega (arith, le-to high (nat n) (nat b))
-range-size {a} (negsuc n) l low high = omega (arith, le-to low (neg (nat a)) (var (negsuc n)))
 
 -- on along the straight
 pub near-along : (at : Walk) (x : ℕ) → Near at → at .station ≤ x → Near (along at x)
@@ -63,13 +51,6 @@ pub walk-same : {x y : ℕ} {h k f g : ℤ} → x ≡ y → h ≡ k → f ≡ g 
 walk-same e p q = rw (e, p, q) refl
 
 -- ---- on a curve
--- rounded down, a quotient is no larger than any whole bound on it
-floor-size-by : (n : ℤ) (d k : ℕ) → natAbs n ≤ k * d → natAbs (floorDiv n (pos d)) ≤ k
-unfolding floorDiv
-floor-size-by n zero k h = omega arith
-floor-size-by (pos n) (suc d) k h = div-le-of-le-mul (suc d) (omega arith)
-floor-size-by (negsuc n) (suc d) k h = omega (arith, div-lt-iff-lt-mul {k = suc d} {x = n} {y = k} (omega arith) .1 (omega arith))
-
 -- what the bend adds to the straight: at most the greatest grade a metre, half of what two grades can differ by
 pub bend-size : (gin gout : ℤ) (L d : ℕ) → natAbs gin ≤ greatestGrade → natAbs gout ≤ greatestGrade → d ≤ L →
     natAbs (floorDiv ((gout -ℤ gin) *ℤ pos d *ℤ pos d) (pos (2 * L))) ≤ greatestGrade * d
@@ -108,14 +89,6 @@ pub exact-upto : (x₀ : ℕ) (z g : ℤ) (c : Curve) (cs : List Curve) (x : ℕ
     exactFrom x₀ z g (c ∷ cs) x ≡ exactFrom x₀ z g (c ∷ []) x
 unfolding exactFrom
 exact-upto x₀ z g c cs x u = simp (le-leb _ _ u)
-
--- ---- rows
--- two rows end to end, each as the whole row says
-pub filled-then : (f g h : ℕ → ℤ) (i n j m k : ℕ) (xs ys zs : List ℤ) → ys ≡ filled f i n xs → zs ≡ filled g j m ys →
-    j ≡ i + n → k ≡ n + m → ((x : ℕ) → i ≤ x → x < j → f x ≡ h x) → ((x : ℕ) → j ≤ x → x < j + m → g x ≡ h x) →
-    zs ≡ filled h i k xs
-filled-then f g h i n j m k xs ys zs p q e s first second =
-    q ∙ filled-cong g h j m ys second ∙ rw (p, filled-cong f h i n xs (λ x l u. first x l (omega arith)), e, s) (filled-join h i n m xs)
 
 -- ---- past the curve
 -- a curve without a fault

@@ -11,9 +11,10 @@ use lib.ListN.{length, drop, getD, set}
 use lib.Seq.{drop-cons, drop-length, getD-take, length-take-le}
 use Rattle.whole.specs.Fill.{filled}
 use Rattle.whole.specs.Floor.{whole, floor}
-use Rattle.whole.proofs.Fill.{filled-none, filled-next}
+use Rattle.whole.proofs.Fill.{filled-none, filled-next, filled-then}
 use Rattle.whole.proofs.Floor.{floor-whole}
 use Rattle.whole.proofs.Int.{var, reps, eq-by}
+use Rattle.whole.proofs.Range.{range-size}
 use Rattle.terms.specs.Limits.{lowestStart, greatestGrade, greatestRoad}
 use Rattle.terms.specs.declared.Verdict.the-variants.{Accepted}
 use Rattle.road.specs.declared.Curve.{Curve}
@@ -23,7 +24,7 @@ use Rattle.road.proofs.Accepted.{SoundCurve, SoundRoad, accepted-curve, sound-c
 use Rattle.heights.specs.declared.Walk.{Walk}
 use Rattle.heights.specs.Profile.{straight, exactFrom, exactHeight, storedHeight}
 use Rattle.heights.specs.Walk.{Near, heightAlong, exactAhead, past}
-use Rattle.heights.proofs.Along.{range-size, exact-past, exact-upto, near-past, filled-then}
+use Rattle.heights.proofs.Along.{exact-past, exact-upto, near-past}
 
 -- past i curves of the road the walk stands at the end of the last: the heights after station 0 are filled up to there, and from
 -- there the exact profile and the verdict go on by the curves that are left

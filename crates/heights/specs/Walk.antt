@@ -1,5 +1,5 @@
 -- A walk along the profile, for the functions that fill the heights: how far from zero it can be, where it leads, and the heights
--- ahead of it.
+-- ahead of it. Private contracts alone cite it: nothing here need be believed.
 use Prim.Native.Nat.{ℕ, _+_, _-_, _*_, _≤_}
 use mathlib.Core.List.{List}
 use lib.IntN.{ℤ, natAbs}

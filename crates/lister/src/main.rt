@@ -3,13 +3,10 @@ use libc::STDIN_FILENO;
 use libc::STDOUT_FILENO;
 use terms::Answer;
 
-// One byte more than the longest road file has: a longer file keeps a wrong length.
-const FILE_BYTES: usize = terms::GREATEST_FILE + 1;
-
 fn main() {
-    let mut bytes = [0u8; FILE_BYTES];
+    let mut bytes = [0u8; file::ENOUGH_BYTES];
     let n = io::read_full(STDIN_FILENO, &mut bytes);
-    let mut text = [0u8; terms::GREATEST_LISTING];
+    let mut text = [0u8; listing::GREATEST_LISTING];
     if let Answer::Number(length) = listing::list_road_file(&bytes[..n], &mut text) {
         let end = length as usize;
         io::write_all(STDOUT_FILENO, &text[..end]);

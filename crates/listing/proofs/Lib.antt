@@ -1,3 +1,3 @@
 pub mod Lent
 pub mod Longest
-pub mod Writing
+pub mod Placed

@@ -10,7 +10,7 @@ use lib.Dec.{ltb}
 use lib.ListN.{length, getD, replicate, length-append, length-replicate}
 use Rattle.whole.proofs.Fill.{filled-length}
 use Rattle.terms.specs.Answers.{written}
-use Rattle.terms.specs.Limits.{lastBit, greatestList, greatestListing}
+use Rattle.terms.specs.Limits.{lastBit, greatestList}
 use Rattle.terms.specs.Refusals.{roomRefused}
 use Rattle.terms.specs.declared.Answer.{Answer}
 use Rattle.terms.specs.declared.Answer.the-variants.{Number, Refused}
@@ -26,7 +26,7 @@ use Rattle.zones.specs.Zones.{zoneEnds, zoneCount}
 use Rattle.zones.proofs.Laws.{zones-at-most}
 use Rattle.listing.specs.Listing.{digit, decimal, space, lineFeed, item, refusedLine, firstLine, zoneLine, bitLetters, bitLines, zonesText, ownMarks, linesFor, textFor, listing, listAnswer}
 use Rattle.listing.proofs.Lent.{number-not-refused}
-use Rattle.listing.proofs.Writing.{joined-at-most}
+use Rattle.listing.proofs.Placed.{joined-at-most}
 
 -- ---- numbers
 one-or-none : (test : Bool) (b : ℕ) → length (cond test [] (b ∷ [])) ≤ 1
@@ -104,6 +104,10 @@ module _ (marks : List ℕ) (h : length marks ≤ greatestList) where
   zones-text-at-most = joined-at-most (bitLines marks) bitBytes (lastBit + 1) bit-at-most
 
 -- ---- the text of a road
+-- a first line of at most 22 bytes, and for each of 5 letters at most 4,001 zones with a line of at most 14 bytes
+abbrev pub greatestListing : ℕ
+greatestListing = 280092
+
 written-length : (f : ℕ → ℕ) (a : Answer) (xs : List ℕ) → length (written f a xs) ≡ length xs
 written-length f (Number n) xs = filled-length f 0 n xs
 written-length f (Refused k) xs = refl

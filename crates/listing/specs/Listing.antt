@@ -11,7 +11,7 @@ use Rattle.terms.specs.declared.Answer.{Answer}
 use Rattle.terms.specs.declared.Answer.the-variants.{Number}
 use Rattle.terms.specs.declared.Verdict.{Verdict}
 use Rattle.terms.specs.declared.Verdict.the-variants.{Accepted, Fault}
-use Rattle.file.specs.File.{roadIn, version}
+use Rattle.file.specs.File.{roadIn, letters, version}
 use Rattle.file.specs.Reading.{readVerdict}
 use Rattle.marks.specs.Marks.{stoppingDistance, decisionDistance}
 use Rattle.marks.specs.RoadFile.{markFileList}
@@ -37,14 +37,21 @@ lineFeed = 10
 unfoldable pub item : ℕ → ℕ → List ℕ
 item x end = decimal x ++ (end ∷ [])
 
+-- the word refused, and the letters VCP, with a space behind
+abbrev pub refusedWord : List ℕ
+refusedWord = 114 ∷ 101 ∷ 102 ∷ 117 ∷ 115 ∷ 101 ∷ 100 ∷ space ∷ []
+
+abbrev pub fileWord : List ℕ
+fileWord = letters ++ (space ∷ [])
+
 -- the word refused, and the number
 unfoldable pub refusedLine : ℕ → List ℕ
-refusedLine k = (114 ∷ 101 ∷ 102 ∷ 117 ∷ 115 ∷ 101 ∷ 100 ∷ space ∷ []) ++ item k lineFeed
+refusedLine k = refusedWord ++ item k lineFeed
 
 -- VCP, version, speed, stopping and decision distance
 unfoldable pub firstLine : ℕ → ℕ → ℕ → List ℕ
 firstLine speed stopping decision =
-    (86 ∷ 67 ∷ 80 ∷ space ∷ []) ++ item version space ++ item speed space ++ item stopping space ++ item decision lineFeed
+    fileWord ++ item version space ++ item speed space ++ item stopping space ++ item decision lineFeed
 
 -- a zone: its letter, its first and its last station
 unfoldable pub zoneLine : ℕ → ℕ → ℕ → List ℕ
@@ -91,7 +98,8 @@ textFor (Fault k) file = refusedLine k
 unfoldable pub listing : List ℕ → List ℕ
 listing file = textFor (readVerdict file) file
 
--- ---- the operation: refused 14 where the buffer is shorter than the listing; else how many bytes are written
+-- ---- the operation: refused 14 where the buffer is shorter than the listing, a refusal that document 01 leaves free; else how many
+-- bytes are written
 unfoldable pub listAnswer : List ℕ → List ℕ → Answer
 listAnswer file buffer = let n = length (listing file) in refuse (ltb (length buffer) n) roomRefused (Number n)
 

@@ -5,7 +5,7 @@ ghost use Prim.Native.Nat.{_*_, _≤_, _<_};
 ghost use lib.ListN.{length};
 ghost use Rattle.terms.specs.Limits.{lastBit, greatestList};
 ghost use Rattle.listing.specs.Listing.{digit, decimal, item, refusedLine, firstLine, zoneLine, zoneLines, bitLines, zonesText, linesFor, listing, listAnswer, listBuffer};
-ghost use Rattle.listing.specs.Writing.{Room, Wrote};
+ghost use Rattle.listing.specs.Placed.{Room, Wrote};
 use terms::Answer;
 use terms::Verdict;
 
@@ -17,8 +17,8 @@ const SPACE: u8 = 32;
 
 const LINE_FEED: u8 = 10;
 
-// Places for the first and last stations of the zones of a bit: between two zones there is a station without the bit.
-const ENDS: usize = terms::GREATEST_LIST + 1;
+// Bytes that hold any listing.
+pub const GREATEST_LISTING: usize = 280092;
 
 // Writes one byte into the text, from the place `at` on. The answer, here and below, is the place behind what is written.
 fn write_byte(byte: u8, text: &mut [u8], at: usize) -> usize
@@ -125,7 +125,7 @@ fn write_bit_lines(marks: &[u8], bit: u32, text: &mut [u8], at: usize) -> usize
     requires { ⌜ (bit ≤ lastBit) × (0 < length (now marks)) × (length (now marks) ≤ greatestList) ⌝ }
     ensures { λ r. ⌜ Wrote (bitLines (now (marks .entry)) bit) at r (now (text .entry)) (now (text .exit)) ⌝ }
 {
-    let mut ends = [0u16; ENDS];
+    let mut ends = [0u16; zones::MOST_ENDS];
     let letters = b"SDRsd";
     let b = bit as usize;
     match zones::zones(marks, bit, &mut ends) {
@@ -153,7 +153,10 @@ fn write_lines(speed: u32, purpose: u32, marks: &[u8], text: &mut [u8]) -> usize
     requires { ⌜ (0 < length (now marks)) × (length (now marks) ≤ greatestList) ⌝ }
     ensures { λ r. ⌜ Wrote (linesFor speed purpose (now (marks .entry))) 0 r (now (text .entry)) (now (text .exit)) ⌝ }
 {
-    let stopping = terms::value_or_zero(distance::required_distance(speed, terms::STOPPING));
+    let stopping = terms::value_or_zero(distance::required_distance(
+        speed,
+        terms::STOPPING_PURPOSE,
+    ));
     let decision = terms::value_or_zero(distance::required_distance(speed, purpose));
     let next = write_first_line(speed, stopping, decision, text, 0);
     write_zones_text(marks, text, next)
@@ -187,7 +190,7 @@ pub fn list_road_file(file: &[u8], text: &mut [u8]) -> Answer
     ensures answer { λ r. ⌜ r ≡ listAnswer (now (file .entry)) (now (text .entry)) ⌝ }
     ensures list { λ _. ⌜ now (text .exit) ≡ listBuffer (now (file .entry)) (now (text .entry)) ⌝ }
 {
-    let mut whole = [0u8; terms::GREATEST_LISTING];
+    let mut whole = [0u8; GREATEST_LISTING];
     let length = write_listing(file, &mut whole);
     if text.len() < length {
         return Answer::Refused(terms::ROOM_REFUSED);

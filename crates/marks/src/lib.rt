@@ -97,7 +97,10 @@ pub fn marks(speed: u32, purpose: u32, heights: &[i32], list: &mut [u8]) -> Answ
     if list.len() < heights.len() {
         return Answer::Refused(terms::ROOM_REFUSED);
     }
-    let stopping = terms::value_or_zero(distance::required_distance(speed, terms::STOPPING));
+    let stopping = terms::value_or_zero(distance::required_distance(
+        speed,
+        terms::STOPPING_PURPOSE,
+    ));
     let decision = terms::value_or_zero(distance::required_distance(speed, purpose));
     fill_marks(heights, stopping, decision, list);
     Answer::Number(heights.len() as u32)

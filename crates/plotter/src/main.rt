@@ -9,12 +9,6 @@ use road::Curve;
 use road::Road;
 use terms::Verdict;
 
-// One byte more than the longest road file has: a longer file keeps a wrong length.
-const FILE_BYTES: usize = terms::GREATEST_FILE + 1;
-
-// Places for the first and last stations of the zones of a letter.
-const ENDS: usize = terms::GREATEST_LIST + 1;
-
 // How many steps an axis has at most.
 const STATION_STEPS: u32 = 16;
 
@@ -118,7 +112,10 @@ text{font-family:sans-serif;font-size:1300px;fill:#333}
 // The title, and below it the speed, the distances that it needs, and the exaggeration.
 fn headings(view: View, speed: u32, purpose: u32) {
     let length = view.length as u64;
-    let stopping = terms::value_or_zero(distance::required_distance(speed, terms::STOPPING));
+    let stopping = terms::value_or_zero(distance::required_distance(
+        speed,
+        terms::STOPPING_PURPOSE,
+    ));
     let decision = terms::value_or_zero(distance::required_distance(speed, purpose));
     let exaggeration = upright::exaggeration(view.length, view.range);
     draw(
@@ -195,7 +192,7 @@ fn bars(view: View, ends: &[u16], count: usize, top: u64, height: u64)
 
 // A group that covers the plot's whole height over each zone of a letter.
 fn columns(view: View, marks: &[u8], bit: u32, open: &[u8], close: &[u8]) {
-    let mut ends = [0u16; ENDS];
+    let mut ends = [0u16; zones::MOST_ENDS];
     let count = find_zones(marks, bit, &mut ends);
     text(open);
     bars(view, &ends, count, upright::TOP, upright::HEIGHT);
@@ -204,7 +201,7 @@ fn columns(view: View, marks: &[u8], bit: u32, open: &[u8], close: &[u8]) {
 
 // The part of the plot before the stations that are not judged for stopping.
 fn judged(view: View, marks: &[u8]) {
-    let mut ends = [0u16; ENDS];
+    let mut ends = [0u16; zones::MOST_ENDS];
     let count = find_zones(marks, 3, &mut ends);
     let end = if count == 0 {
         view.length
@@ -390,7 +387,7 @@ fn curves(view: View, road: Road, heights: &[i32]) {
 <path class=\"crest\" d=\"M14100 11700L14650 10700L15200 11700Z\"/><text x=\"15700\" y=\"11650\">break</text>
 ",
     );
-    for k in 0..terms::CURVE_PLACES {
+    for k in 0..road::CURVE_PLACES {
         if k < count {
             let c = road.curves[k];
             let out = c.grade_out;
@@ -406,7 +403,7 @@ fn curves(view: View, road: Road, heights: &[i32]) {
 fn curve_numbers(view: View, road: Road) {
     let count = road.count as usize;
     let mut free: u64 = 0;
-    for k in 0..terms::CURVE_PLACES {
+    for k in 0..road::CURVE_PLACES {
         if k < count {
             let c = road.curves[k];
             let at = c.pvi as u64;
@@ -469,7 +466,7 @@ fn tally(count: usize) {
 // A strip, in a group of its letter's class: the letter and its meaning, a bar for each zone, their stations and their
 // number.
 fn strip(view: View, marks: &[u8], bit: u32, class: &[u8], meaning: &[u8]) {
-    let mut ends = [0u16; ENDS];
+    let mut ends = [0u16; zones::MOST_ENDS];
     let count = find_zones(marks, bit, &mut ends);
     text(class);
     draw(
@@ -560,7 +557,7 @@ fn plot(file: &[u8]) {
 }
 
 fn main() {
-    let mut bytes = [0u8; FILE_BYTES];
+    let mut bytes = [0u8; file::ENOUGH_BYTES];
     let n = io::read_full(STDIN_FILENO, &mut bytes);
     plot(&bytes[..n]);
 }

@@ -13,6 +13,9 @@ pub struct Curve {
     pub grade_out: i16,
 }
 
+// A road's places for curves.
+pub const CURVE_PLACES: usize = terms::GREATEST_CURVE_COUNT as usize;
+
 // A road: the speed, the decision purpose, the length N, the start height, the first grade, and the first `count` of the
 // curve places.
 pub struct Road {
@@ -22,7 +25,7 @@ pub struct Road {
     pub start_height: i32,
     pub first_grade: i16,
     pub count: u8,
-    pub curves: [Curve; terms::CURVE_PLACES],
+    pub curves: [Curve; CURVE_PLACES],
 }
 
 // Whether a grade is out of its range.

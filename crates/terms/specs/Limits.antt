@@ -71,8 +71,3 @@ eyeHeight = 10800
 
 abbrev pub objectHeight : ℕ
 objectHeight = 6000
-
--- bytes that hold any listing: a first line of at most 22 bytes, and for each of 5 letters at most 4,001 zones with a line of
--- at most 14 bytes
-abbrev pub greatestListing : ℕ
-greatestListing = 280092

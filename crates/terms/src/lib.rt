@@ -70,7 +70,7 @@ pub const LEAST_SPEED: u32 = 20;
 pub const GREATEST_SPEED: u32 = 130;
 
 // The purpose of stopping, and the last one of the table of reaction times.
-pub const STOPPING: u32 = 0;
+pub const STOPPING_PURPOSE: u32 = 0;
 
 pub const LAST_PURPOSE: u32 = 5;
 
@@ -89,11 +89,6 @@ pub const GREATEST_GRADE: i16 = 1500;
 pub const GREATEST_CURVE_COUNT: u8 = 32;
 
 pub const GREATEST_CURVE: u16 = 2000;
-
-// A road's places for curves, and the bytes of the longest road file: 16, and 6 for each curve.
-pub const CURVE_PLACES: usize = 32;
-
-pub const GREATEST_FILE: usize = 208;
 
 // A crest: its drop in grade, in hundredths of a percent; its sight distance and its length, in metres.
 pub const GREATEST_DROP: u32 = 3000;
@@ -118,9 +113,6 @@ pub const LAST_BIT: u32 = 4;
 pub const EYE_HEIGHT: u32 = 10800;
 
 pub const OBJECT_HEIGHT: u32 = 6000;
-
-// Bytes that hold any listing.
-pub const GREATEST_LISTING: usize = 280092;
 
 // Whether `x` is not `low` to `high`.
 pub fn outside(low: u32, high: u32, x: u32) -> bool

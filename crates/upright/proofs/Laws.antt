@@ -1,6 +1,6 @@
 -- Laws of the picture's geometry: a search through a table goes on behind each number that fails its test, and a height that
 -- is shown is drawn within the plot.
-use Prim.Native.Nat.{ℕ, zero, suc, _+_, _*_, _-_, _/_, _≤_, _<_}
+use Prim.Native.Nat.{ℕ, suc, _+_, _*_, _-_, _/_, _≤_, _<_}
 use mathlib.Core.Path.{_≡_, refl}
 use mathlib.Core.Bool.{Bool, true, false, cond}
 use mathlib.Core.List.{List, [], _∷_}
@@ -15,6 +15,7 @@ use lib.Signed.{nonNeg}
 use mir.Syntax.{w32}
 use mir.Val.{SFits}
 use Rattle.whole.proofs.Int.{var, nat, add, eq-by}
+use Rattle.whole.proofs.Table.{Each, each-at}
 use Rattle.picture.specs.Picture.{plotWidth}
 use Rattle.upright.specs.Upright.{plotHeight, firstThat, showing, exaggerations, exaggeration, shown, steps, step}
 
@@ -28,23 +29,13 @@ module _ (test : ℕ → Bool) (xs : List ℕ) (other i : ℕ) (l : i < length x
   unfolding firstThat
   first-later h = rw (add-one, drop-cons xs i 0 l, h) refl
 
--- what holds of each number of a table
+-- what holds of each number of a table and of the other holds of the number that is found
 module _ (P : ℕ → Type 0) where
-  abbrev pub Each : List ℕ → Type 0
-  Each [] = Unit {0}
-  Each (x ∷ xs) = P x × Each xs
-
-  pub each-at : (xs : List ℕ) (i : ℕ) → i < length xs → Each xs → P (getD xs i 0)
-  each-at [] i l h = absurd (omega arith)
-  each-at (x ∷ xs) zero l h = h .0
-  each-at (x ∷ xs) (suc i) l h = each-at xs i (omega arith) (h .1)
-
   cond-either : (b : Bool) (x y : ℕ) → P x → P y → P (cond b x y)
   cond-either true x y h k = h
   cond-either false x y h k = k
 
-  -- and of the other holds of the number that is found
-  pub first-each : (test : ℕ → Bool) (xs : List ℕ) (other : ℕ) → Each xs → P other → P (firstThat test xs other)
+  pub first-each : (test : ℕ → Bool) (xs : List ℕ) (other : ℕ) → Each P xs → P other → P (firstThat test xs other)
   unfolding firstThat
   first-each test [] other h k = k
   first-each test (x ∷ xs) other h k = cond-either (test x) _ _ (h .0) (first-each test xs other (h .1) k)
@@ -57,7 +48,7 @@ stretches : Each Stretch exaggerations
 stretches = omega arith
 
 pub stretch-at : (i : ℕ) → i < 8 → Stretch (getD exaggerations i 0)
-stretch-at i l = each-at Stretch exaggerations i l stretches
+stretch-at i l = each-at Stretch exaggerations i 0 stretches (λ h. absurd (omega arith))
 
 pub exaggeration-stretch : (n range : ℕ) → Stretch (exaggeration n range)
 unfolding exaggeration

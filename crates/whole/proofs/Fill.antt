@@ -1,23 +1,15 @@
 -- Laws of `filled`: its length, each of its filled places, how it grows by one store at its end or its front, and what it
 -- depends on.
 use mathlib.Core.Path.{_≡_, refl, sym, ap, _∙_}
-use mathlib.Core.List.{List, [], _∷_}
+use mathlib.Core.List.{List}
 use mathlib.Core.Logic.{⊎-elim}
 use Prim.Native.Nat.{ℕ, zero, suc, _+_, _≤_, _<_}
 use native.Mathlib.Nat.{eq-or-lt-of-le, add-assoc, add-suc, add-zero}
 use native.Mathlib.Numerals.{add-one}
 use native.Mathlib.Omega.{arith}
 use lib.ListN.{length, take, getD, set, length-set}
-use lib.Seq.{getD-set-same, getD-set-other, take-set-lt, ext-getD}
+use lib.Seq.{getD-set-same, getD-set-other, set-comm, take-set-lt, ext-getD}
 use Rattle.whole.specs.Fill.{filled}
-
--- two stores at two places
-set-set-lt : {A : Type 0} (xs : List A) (i j : ℕ) (a b : A) → i < j → set (set xs j b) i a ≡ set (set xs i a) j b
-set-set-lt [] i j a b l = refl
-set-set-lt (x ∷ xs) zero zero a b l = absurd (omega arith)
-set-set-lt (x ∷ xs) zero (suc j) a b l = refl
-set-set-lt (x ∷ xs) (suc i) zero a b l = absurd (omega arith)
-set-set-lt (x ∷ xs) (suc i) (suc j) a b l = ap (λ ys. x ∷ ys) (set-set-lt xs i j a b (omega arith))
 
 module _ {A : Type 0} (f : ℕ → A) (i : ℕ) where
   pub filled-length : (n : ℕ) (xs : List A) → length (filled f i n xs) ≡ length xs
@@ -55,7 +47,7 @@ module _ {A : Type 0} (f : ℕ → A) (i : ℕ) where
   front zero xs = rw add-zero refl
   front (suc n) xs =
       let e : i + 1 + n ≡ i + (n + 1) = omega arith in let w : suc n + 1 ≡ suc (n + 1) = omega arith in
-      set-set-lt (filled f (i + 1) n xs) i (i + 1 + n) (f i) (f (i + 1 + n)) (omega arith)
+      set-comm (filled f (i + 1) n xs) (i + 1 + n) i (f (i + 1 + n)) (f i) (λ e. omega arith)
       ∙ ap (λ ys. set ys (i + 1 + n) (f (i + 1 + n))) (front n xs)
       ∙ rw (e, w) refl
 
@@ -91,6 +83,13 @@ unfolding filled
 filled-cong f g i zero xs h = refl
 filled-cong f g i (suc n) xs h =
     rw (filled-cong f g i n xs (λ k l r. h k l (omega arith)), h (i + n) (omega arith) (omega arith)) refl
+
+-- two rows end to end, each as the whole row says
+pub filled-then : {A : Type 0} (f g h : ℕ → A) (i n j m k : ℕ) (xs ys zs : List A) → ys ≡ filled f i n xs → zs ≡ filled g j m ys →
+    j ≡ i + n → k ≡ n + m → ((x : ℕ) → i ≤ x → x < j → f x ≡ h x) → ((x : ℕ) → j ≤ x → x < j + m → g x ≡ h x) →
+    zs ≡ filled h i k xs
+filled-then f g h i n j m k xs ys zs p q e s first second =
+    q ∙ filled-cong g h j m ys second ∙ rw (p, filled-cong f h i n xs (λ x l u. first x l (omega arith)), e, s) (filled-join h i n m xs)
 
 -- ---- where all places are filled, what they held does not count
 pub filled-whole : {A : Type 0} (f : ℕ → A) (n : ℕ) (xs ys : List A) → length xs ≡ n → length ys ≡ n →

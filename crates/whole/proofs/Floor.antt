@@ -4,7 +4,7 @@ use mathlib.Core.Path.{_≡_, refl, ap₂}
 use mathlib.Core.Bool.{_&&_}
 use Prim.Native.Nat.{ℕ, zero, suc, _+_, _*_, _/_, _≤_, _<_}
 use native.Mathlib.Omega.{arith}
-use native.Mathlib.Nat.{div-le-self, div-mul-le-self, lt-mul-div-succ}
+use native.Mathlib.Nat.{div-le-self, div-mul-le-self, div-lt-iff-lt-mul, div-le-of-le-mul, lt-mul-div-succ}
 use lib.IntN.{ℤ, pos, negsuc, negℤ, natAbs, _+ℤ_, _-ℤ_, _*ℤ_}
 use lib.Signed.{mag, quotZ, _≤ℤ_, _<ℤ_}
 use mir.Syntax.{Width}
@@ -98,6 +98,13 @@ floorR {n} u v = record {
   good = u .good && v .good;
   same = λ t. let p = and-yes (u .good) (v .good) t in ap₂ floorDiv (u .same (p .0)) (v .same (p .1));
 }
+
+-- rounded down, a quotient is no larger than any whole bound on it
+pub floor-size-by : (n : ℤ) (d k : ℕ) → natAbs n ≤ k * d → natAbs (floorDiv n (pos d)) ≤ k
+unfolding floorDiv
+floor-size-by n zero k h = omega arith
+floor-size-by (pos n) (suc d) k h = div-le-of-le-mul (suc d) (omega arith)
+floor-size-by (negsuc n) (suc d) k h = omega (arith, div-lt-iff-lt-mul {k = suc d} {x = n} {y = k} (omega arith) .1 (omega arith))
 
 -- ---- the machine's division by a positive number
 pub divisor-bits : (w : Width) (d : ℤ) → pos 0 <ℤ d → 0 < ofZ w d

@@ -5,3 +5,4 @@ pub mod Machine
 pub mod Range
 pub mod Ring
 pub mod Twos
+pub mod Table

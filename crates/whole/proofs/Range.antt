@@ -10,12 +10,12 @@ use native.Mathlib.Omega.{arith}
 use native.Mathlib.Nat.{mul-le-mul, one-le-pow}
 use lib.Dec.{T, ltb, ltb→lt, nltb→le}
 use lib.IntN.{ℤ, pos, negsuc, negℤ, natAbs, _+ℤ_, _*ℤ_}
-use lib.Signed.{mag, leZ, ltZ, natAbs-le}
+use lib.Signed.{mag, leZ, ltZ, natAbs-le, _≤ℤ_}
 use mir.Syntax.{Width}
 use mir.Val.{SFits, bits, hbits, toZ, ofZ, sel}
 use mir.ValLaws.{pow-bits}
 use mir.Facts.{toZ-ofZ, and-yes}
-use Rattle.whole.proofs.Int.{up, dn, parts-natAbs, add-ok, mul-ok}
+use Rattle.whole.proofs.Int.{up, dn, parts-natAbs, add-ok, mul-ok, nat, var, neg, le-to}
 
 -- ---- sizes
 -- the size of z is at most b
@@ -43,6 +43,11 @@ mul-size x y b c h k =
     let t : up y + dn y ≤ c = omega (arith, parts-natAbs y) in
     let m = mul-le-mul s t in
     size-by (x *ℤ y) _ _ (b * c) (mul-ok x y (up x) (dn x) (up y) (dn y) refl refl) (omega arith) (omega arith)
+
+-- a number in a range that reaches no farther down than up
+pub range-size : {a b : ℕ} (z : ℤ) → a ≤ b → negℤ (pos a) ≤ℤ z → z ≤ℤ pos b → natAbs z ≤ b
+range-size {b} (pos n) l low high = omega (arith, le-to high (nat n) (nat b))
+range-size {a} (negsuc n) l low high = omega (arith, le-to low (neg (nat a)) (var (negsuc n)))
 
 -- of what a call ensures of its result
 pub as-size : (r m : ℤ) (b : ℕ) → r ≡ m → natAbs m ≤ b → natAbs r ≤ b
@@ -142,6 +147,10 @@ leafR w f = record { size = leafB w f; good = true; same = λ t. toZ-ofZ f }
 
 abbrev pub countR : (w : Width) (n b : ℕ) → n ≤ b → Reads (toZ w n) (pos n)
 countR w n b h = readR w {m = pos n} record { size = natB b h; good = true; same = λ t. refl }
+
+-- a signed number of a known size
+abbrev pub knownR : (w : Width) (z : ℤ) (b : ℕ) → natAbs z ≤ b → Reads (toZ w (ofZ w z)) z
+knownR w z b h = readR w record { size = record { b = b; ok = h }; good = true; same = λ t. refl }
 
 pub same-by : {m z : ℤ} (u : Reads m z) → T (u .good) → m ≡ z
 same-by u t = u .same t

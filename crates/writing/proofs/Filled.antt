@@ -1,11 +1,11 @@
 -- What a buffer holds after each part of a road's file is stored in it.
-use mathlib.Core.Path.{_≡_, sym, ap, _∙_}
+use mathlib.Core.Path.{_≡_, refl, sym, ap, _∙_}
 use mathlib.Core.List.{List}
 use Prim.Native.Nat.{ℕ, _+_, _*_, _-_, _≤_, _<_}
 use native.Mathlib.Omega.{arith}
 use lib.ListN.{length, getD}
 use Rattle.whole.specs.Fill.{filled}
-use Rattle.whole.proofs.Fill.{filled-cong, filled-join}
+use Rattle.whole.proofs.Fill.{filled-cong, filled-then}
 use Rattle.road.specs.declared.Road.{Road}
 use Rattle.road.specs.Road.{noCurve}
 use Rattle.file.specs.File.{byteAt, fileLength}
@@ -27,11 +27,10 @@ pub record-filled : (r : Road) (i : ℕ) (bytes entry before after : List ℕ) �
     after ≡ filled (λ (k : ℕ). byteAt bytes (k - (fileLength i))) (fileLength i) (length bytes) before →
     after ≡ filled (byteAt (fileBytes r)) 16 (6 * (i + 1)) entry
 record-filled r i bytes entry before after l m b p e =
-    let at = fileLength i in
-    let s : 6 * (i + 1) ≡ 6 * i + 6 = omega arith in
-    e ∙ rw (b, curve-length (getD (r .curves) i noCurve), s)
-    (filled-cong _ _ at 6 before (λ k low high. sym (file-curve r i (k - at) l m (omega arith)) ∙ ap (byteAt (fileBytes r)) (there k low))
-    ∙ rw p (filled-join (byteAt (fileBytes r)) 16 (6 * i) 6 entry))
+    let all = byteAt (fileBytes r) in let at = fileLength i in
+    filled-then all _ all 16 (6 * i) at 6 (6 * (i + 1)) entry before after p (rw (b, curve-length (getD (r .curves) i noCurve)) at e)
+    refl (omega arith) (λ k low high. refl)
+    (λ k low high. sym (file-curve r i (k - at) l m (omega arith)) ∙ ap all (there k low))
   where
     there : (k : ℕ) → fileLength i ≤ k → fileLength i + (k - (fileLength i)) ≡ k
     there k h = omega arith

@@ -3,16 +3,16 @@ use mathlib.Core.Path.{_≡_, refl, sym, ap, _∙_}
 use mathlib.Core.List.{List, [], _∷_}
 use Prim.Native.Nat.{ℕ, zero, suc, _+_, _/_, _%_, _≤_, _<_}
 use native.Mathlib.Omega.{arith}
-use lib.IntN.{ℤ, pos, negsuc, negℤ}
+use lib.IntN.{ℤ, pos, negℤ, natAbs}
 use lib.ListN.{length, getD, take, replicate, length-replicate}
 use lib.Seq.{ext-getD, getD-take, length-take-le}
 use lib.Signed.{_≤ℤ_}
-use mir.Syntax.{Width, w16, w32}
+use mir.Syntax.{w16, w32}
 use mir.Val.{SFits, toZ, ofZ}
 use Rattle.whole.specs.Fill.{filled}
-use Rattle.whole.proofs.Int.{var, nat, le-to}
 use Rattle.whole.proofs.Fill.{filled-length, filled-at, filled-cong}
 use Rattle.whole.proofs.Machine.{plain}
+use Rattle.whole.proofs.Range.{fits-by, range-size}
 use Rattle.whole.proofs.Twos.{bits-below}
 use Rattle.terms.specs.Limits.{greatestCurveCount, greatestRoad, greatestGrade, lowestStart, highestStart}
 use Rattle.terms.specs.declared.Verdict.the-variants.{Accepted}
@@ -25,16 +25,11 @@ use Rattle.writing.specs.Bytes.{headerBytes, curveBytes, fileBytes, Same
 use Rattle.writing.proofs.Bytes.{from-bytes2, from-bytes4, file-curve}
 
 -- ---- numbers
--- what lies between two numbers that fit a width fits it
-between-fits : (w : Width) (low high z : ℤ) → low ≤ℤ z → z ≤ℤ high → SFits w low → SFits w high → SFits w z
-between-fits w low (pos m) (pos n) l h p q = record { sfits = omega (arith, le-to h (nat n) (nat m), q .sfits) }
-between-fits w low (negsuc m) (pos n) l h p q = absurd (h .le)
-between-fits w (pos m) high (negsuc n) l h p q = absurd (l .le)
-between-fits w (negsuc m) high (negsuc n) l h p q =
-    record { sfits = omega (arith, le-to l (var (negsuc m)) (var (negsuc n)), p .sfits) }
-
 grade-fits : (z : ℤ) → negℤ (pos greatestGrade) ≤ℤ z → z ≤ℤ pos greatestGrade → SFits w16 z
-grade-fits z l h = between-fits w16 _ _ z l h record { sfits = omega arith } record { sfits = omega arith }
+grade-fits z l h = fits-by record { b = greatestGrade; ok = range-size {a = greatestGrade} z (omega arith) l h } tt
+
+start-fits : (z : ℤ) → lowestStart ≤ℤ z → z ≤ℤ highestStart → SFits w32 z
+start-fits z l h = fits-by record { b = natAbs highestStart; ok = range-size {a = natAbs lowestStart} z (omega arith) l h } tt
 
 u16-written : (s : List ℕ) (k n : ℕ) → n < 65536 → byteAt s k ≡ n % 256 → byteAt s (k + 1) ≡ n / 256 % 256 → u16At s k ≡ n
 u16-written s k n h p q = rw (p, q) (from-bytes2 n h)
@@ -99,7 +94,7 @@ module _ (r : Road) (held : length (r .curves) ≡ greatestCurveCount) (accepted
   unfolding roadIn cleared fileBytes headerBytes
   road-back =
       let road = accepted-road r accepted in
-      let start = between-fits w32 lowestStart highestStart (r .«start_height») (road .start-low) (road .start-high) record { sfits = omega arith } record { sfits = omega arith } in
+      let start = start-fits (r .«start_height») (road .start-low) (road .start-high) in
       let grade = grade-fits (r .«first_grade») (road .grade-low) (road .grade-high) in
       cc (
         from-bytes2 (r .length) (omega (arith, road .length-high)),

@@ -46,7 +46,7 @@ fn high(number: u32) -> u8
     (number / 256 % 256) as u8
 }
 
-fn header_bytes(road: Road) -> [u8; 16]
+fn header_bytes(road: Road) -> [u8; file::HEADER_BYTES]
     ensures { λ r. ⌜ r ≡ headerBytes road ⌝ }
 {
     let start = bits32(road.start_height);
@@ -71,7 +71,7 @@ fn header_bytes(road: Road) -> [u8; 16]
     ]
 }
 
-fn curve_bytes(curve: Curve) -> [u8; 6]
+fn curve_bytes(curve: Curve) -> [u8; file::CURVE_BYTES]
     ensures { λ r. ⌜ r ≡ curveBytes curve ⌝ }
 {
     let length = curve.length as u32;

@@ -8,6 +8,9 @@ ghost use Rattle.terms.specs.declared.Answer.the-variants.{Number};
 ghost use Rattle.zones.specs.Zones.{hasBit, beginsAt, endsAt, zoneEnds, zoneCount, pairsWritten, zonesAnswer, zonesList};
 use terms::Answer;
 
+// Places for the first and last stations of all zones of a bit: between two zones there is a station without the bit.
+pub const MOST_ENDS: usize = terms::GREATEST_LIST + 1;
+
 // Whether the mark of station `i` has the bit. Beyond the last station there is none.
 fn has_bit(marks: &[u8], bit: u32, i: usize) -> bool
     requires { ⌜ bit ≤ lastBit ⌝ }

@@ -2,7 +2,7 @@
 use borrow.Author.Needs.{needs}
 use native.Mathlib.Omega.{arith}
 use Rattle.listing.specs.Listing.{decimal}
-use Rattle.listing.proofs.Writing.{wrote-join, room-first, room-next}
+use Rattle.listing.proofs.Placed.{wrote-join, room-first, room-next}
 use Rattle.listing.proofs.write_decimal.Statement.{statement}
 use Rattle.listing.proofs.write_decimal.Tie as tie
 

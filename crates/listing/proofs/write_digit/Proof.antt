@@ -2,7 +2,7 @@
 use borrow.Author.Tests.{lt-ltb, le-ltb}
 use borrow.Author.Needs.{needs}
 use Rattle.listing.specs.Listing.{digit}
-use Rattle.listing.proofs.Writing.{wrote-none}
+use Rattle.listing.proofs.Placed.{wrote-none}
 use Rattle.listing.proofs.write_digit.Statement.{statement}
 use Rattle.listing.proofs.write_digit.Tie as tie
 

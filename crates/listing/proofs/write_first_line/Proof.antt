@@ -1,8 +1,7 @@
 -- `write_first_line` meets its contract: its items one behind the other.
-use mathlib.Core.List.{[], _∷_}
 use borrow.Author.Needs.{needs}
-use Rattle.listing.specs.Listing.{space, firstLine}
-use Rattle.listing.proofs.Writing.{wrote-join, room-first, room-next}
+use Rattle.listing.specs.Listing.{fileWord, firstLine}
+use Rattle.listing.proofs.Placed.{wrote-join, room-first, room-next}
 use Rattle.listing.proofs.write_first_line.Statement.{statement}
 use Rattle.listing.proofs.write_first_line.Tie as tie
 
@@ -11,7 +10,7 @@ slice-aggregate-write-word c = search needs
 
 write-word-requires : tie.Need-write-word-requires
 unfolding firstLine
-write-word-requires c κs = room-first (86 ∷ 67 ∷ 80 ∷ space ∷ []) _ (c .before .before .before .pre)
+write-word-requires c κs = room-first fileWord _ (c .before .before .before .pre)
 
 write-item-requires : tie.Need-write-item-requires
 unfolding firstLine

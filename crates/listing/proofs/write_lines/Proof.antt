@@ -5,8 +5,8 @@ use native.Mathlib.Omega.{arith}
 use Rattle.terms.specs.Answers.{valueOrZero}
 use Rattle.marks.specs.Marks.{stoppingDistance, decisionDistance}
 use Rattle.listing.specs.Listing.{firstLine, linesFor}
-use Rattle.listing.specs.Writing.{Wrote}
-use Rattle.listing.proofs.Writing.{wrote-join, room-first, room-next}
+use Rattle.listing.specs.Placed.{Wrote}
+use Rattle.listing.proofs.Placed.{wrote-join, room-first, room-next}
 use Rattle.listing.proofs.write_lines.Statement.{statement}
 use Rattle.listing.proofs.write_lines.Tie as tie
 

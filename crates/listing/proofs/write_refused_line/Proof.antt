@@ -1,8 +1,7 @@
 -- `write_refused_line` meets its contract: the word and the number, one behind the other.
-use mathlib.Core.List.{[], _∷_}
 use borrow.Author.Needs.{needs}
-use Rattle.listing.specs.Listing.{space, refusedLine}
-use Rattle.listing.proofs.Writing.{wrote-join, room-first, room-next}
+use Rattle.listing.specs.Listing.{refusedWord, refusedLine}
+use Rattle.listing.proofs.Placed.{wrote-join, room-first, room-next}
 use Rattle.listing.proofs.write_refused_line.Statement.{statement}
 use Rattle.listing.proofs.write_refused_line.Tie as tie
 
@@ -11,7 +10,7 @@ slice-aggregate-write-word c = search needs
 
 write-word-requires : tie.Need-write-word-requires
 unfolding refusedLine
-write-word-requires c κs = room-first (114 ∷ 101 ∷ 102 ∷ 117 ∷ 115 ∷ 101 ∷ 100 ∷ space ∷ []) _ (c .before .before .before .pre)
+write-word-requires c κs = room-first refusedWord _ (c .before .before .before .pre)
 
 write-item-requires : tie.Need-write-item-requires
 unfolding refusedLine

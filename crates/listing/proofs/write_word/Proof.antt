@@ -7,8 +7,8 @@ use borrow.Author.Needs.{needs}
 use native.Mathlib.Omega.{arith}
 use lib.ListN.{length, getD}
 use Rattle.listing.specs.Listing.{joined}
-use Rattle.listing.specs.Writing.{Wrote}
-use Rattle.listing.proofs.Writing.{wrote-zero, wrote-turn, room-turn, wrote-length, joined-bytes}
+use Rattle.listing.specs.Placed.{Wrote}
+use Rattle.listing.proofs.Placed.{wrote-zero, wrote-turn, room-turn, wrote-length, joined-bytes}
 use Rattle.listing.proofs.write_word.Statement.{statement}
 use Rattle.listing.proofs.write_word.Tie as tie
 

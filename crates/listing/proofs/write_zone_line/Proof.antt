@@ -2,7 +2,7 @@
 use mathlib.Core.List.{[], _∷_}
 use borrow.Author.Needs.{needs}
 use Rattle.listing.specs.Listing.{space, zoneLine}
-use Rattle.listing.proofs.Writing.{wrote-join, room-first, room-next}
+use Rattle.listing.proofs.Placed.{wrote-join, room-first, room-next}
 use Rattle.listing.proofs.write_zone_line.Statement.{statement}
 use Rattle.listing.proofs.write_zone_line.Tie as tie
 

@@ -7,8 +7,8 @@ use borrow.Author.Needs.{needs}
 use native.Mathlib.Omega.{arith}
 use lib.ListN.{getD}
 use Rattle.listing.specs.Listing.{zoneLine, zoneLines}
-use Rattle.listing.specs.Writing.{Wrote}
-use Rattle.listing.proofs.Writing.{wrote-zero, wrote-turn, wrote-length, room-turn}
+use Rattle.listing.specs.Placed.{Wrote}
+use Rattle.listing.proofs.Placed.{wrote-zero, wrote-turn, wrote-length, room-turn}
 use Rattle.listing.proofs.write_zone_lines.Statement.{statement}
 use Rattle.listing.proofs.write_zone_lines.Tie as tie
 

@@ -6,8 +6,8 @@ use borrow.Author.Needs.{needs}
 use native.Mathlib.Omega.{arith}
 use Rattle.terms.specs.Limits.{lastBit}
 use Rattle.listing.specs.Listing.{joined, bitLines}
-use Rattle.listing.specs.Writing.{Wrote}
-use Rattle.listing.proofs.Writing.{wrote-zero, wrote-turn, wrote-length, room-turn}
+use Rattle.listing.specs.Placed.{Wrote}
+use Rattle.listing.proofs.Placed.{wrote-zero, wrote-turn, wrote-length, room-turn}
 use Rattle.listing.proofs.write_zones_text.Statement.{statement}
 use Rattle.listing.proofs.write_zones_text.Tie as tie
 

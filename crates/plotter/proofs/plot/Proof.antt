@@ -1,27 +1,20 @@
 -- `plot` is safe: an accepted road has at most as many stations as the arrays have places (`accepted-road`).
-use mathlib.Core.Path.{_≡_, sym, ap, _∙_}
+use mathlib.Core.Path.{sym, _∙_}
 use Prim.Native.Nat.{_+_, _≤_}
 use borrow.Author.Needs.{needs}
 use native.Mathlib.Omega.{arith}
 use lib.ListN.{length}
 use lib.Seq.{length-take-le}
 use Rattle.road.proofs.Accepted.{SoundRoad, accepted-road}
-use Rattle.file.specs.declared.ReadRoad.{ReadRoad}
-use Rattle.file.specs.Reading.{readVerdict, readRoad}
-use Rattle.file.proofs.Sound.{accepted-file, read-accepted}
+use Rattle.file.proofs.Sound.{accepted-file, verdict-read, road-read}
 use Rattle.plotter.proofs.plot.Statement.{statement}
 use Rattle.plotter.proofs.plot.Tie as tie
 
-verdict-is : (c : tie.After-read) → c .read .result .verdict ≡ readVerdict (c .before .before .args .file .now)
-unfolding readRoad
-verdict-is c = ap (λ (r : ReadRoad). r .verdict) (c .read .ensures)
-
 sound : (c : tie.After-enum-told) → SoundRoad (c .before .before .read .result .road)
 sound c =
-    let read = c .before .before in
-    let accepted = sym (verdict-is read) ∙ c .enum-told .given .1 in
-    let road = ap (λ (r : ReadRoad). r .road) (read .read .ensures ∙ read-accepted _ accepted) in
-    accepted-road _ (rw road (accepted-file _ accepted .road))
+    let read = c .before .before .read in
+    let accepted = sym (verdict-read _ (read .result) (read .ensures)) ∙ c .enum-told .given .1 in
+    accepted-road _ (rw (road-read _ (read .result) (read .ensures) accepted) (accepted-file _ accepted .road))
 
 -- the arrays have a place for each station
 rooms : (c : tie.After-struct-known) →

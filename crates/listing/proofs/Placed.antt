@@ -12,7 +12,7 @@ use lib.Seq.{take-suc, take-length, length-take-le, ext-getD}
 use Rattle.whole.specs.Fill.{filled}
 use Rattle.whole.proofs.Fill.{filled-length, filled-at, filled-take, filled-cong, filled-join}
 use Rattle.listing.specs.Listing.{joined}
-use Rattle.listing.specs.Writing.{placed, Room, Wrote}
+use Rattle.listing.specs.Placed.{placed, Room, Wrote}
 
 -- ---- the placed bytes
 pub placed-length : (bytes : List ℕ) (at : ℕ) (xs : List ℕ) → length (placed bytes at xs) ≡ length xs
