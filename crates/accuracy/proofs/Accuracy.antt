@@ -3,7 +3,7 @@
 use mathlib.Core.Path.{_≡_, ap, _∙_}
 use mathlib.Core.Bool.{false}
 use mathlib.Core.List.{List}
-use Prim.Native.Nat.{ℕ, _+_, _-_, _≤_, _<_}
+use Prim.Native.Nat.{ℕ, _+_, _-_, _≤_, _<_, min}
 use native.Mathlib.Omega.{arith}
 use borrow.Author.Tests.{le-ltb, lt-leb}
 use lib.Dec.{T}
@@ -24,9 +24,9 @@ use Rattle.road.proofs.Accepted.{accepted-road}
 use Rattle.heights.specs.Profile.{exactHeight, storedHeight}
 use Rattle.heights.specs.Heights.{heightsAnswer, heightsList}
 use Rattle.heights.proofs.Profile.{stored-floor}
-use Rattle.sight.specs.Sight.{at, clears, seen, least, availableSight}
+use Rattle.sight.specs.Sight.{at, clears, seen, availableSight}
 use Rattle.sight.specs.Operations.{sightAnswer, profileAnswer, profileList}
-use Rattle.sight.proofs.Reach.{available-mono, reach-is, least-le-right}
+use Rattle.sight.proofs.Reach.{available-mono, reach-is}
 use Rattle.sight.proofs.Seen.{every-at, every-by}
 use Rattle.accuracy.specs.ExactSight.{clearsExactly, seenExactly, exactSight}
 use Rattle.accuracy.specs.Accuracy.{AccuracyRule}
@@ -61,9 +61,9 @@ module _ (H : ℕ → Frac) (h : ℕ → ℤ) (e o i j : ℕ) (floors : (k : ℕ
 -- ---- how far is seen: a road, and a list of just its stored heights
 module _ (r : Road) (list : List ℤ) (i far : ℕ) (on : i ≤ r .length) (size : length list ≡ r .length + 1)
     (stored : (k : ℕ) → k ≤ r .length → at list k ≡ storedHeight r k) where
-  floors : (t : ℕ) → t ≤ least far (r .length - i) → (k : ℕ) → k ≤ i + t → Floor (exactHeight r k) (at list k)
+  floors : (t : ℕ) → t ≤ min far (r .length - i) → (k : ℕ) → k ≤ i + t → Floor (exactHeight r k) (at list k)
   floors t l k m =
-      let within : k ≤ r .length = omega (arith, least-le-right far (r .length - i)) in
+      let within : k ≤ r .length = omega arith in
       rw (stored k within) (stored-floor r k)
 
   left : length list - 1 - i ≡ r .length - i

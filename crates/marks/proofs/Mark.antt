@@ -3,20 +3,20 @@
 use mathlib.Core.Path.{_≡_, refl, sym}
 use mathlib.Core.Bool.{Bool, true, false, not, _&&_, _||_}
 use mathlib.Core.List.{List}
-use Prim.Native.Nat.{ℕ, zero, suc, _+_, _*_, _%_, _≤_, _<_}
+use Prim.Native.Nat.{ℕ, zero, suc, _+_, _*_, _%_, _≤_, _<_, min}
 use native.Mathlib.Omega.{arith}
-use borrow.Author.Tests.{le-ltb, lt-leb}
+use borrow.Author.Tests.{ltb-true, ltb-false, lt-ltb, le-ltb, lt-leb}
 use lib.Bits.{bitOr}
-use lib.Dec.{T, ltb, eqb, eqb→eq, ltb→lt}
+use lib.Dec.{T, ltb, eqb, eqb→eq}
 use lib.IntN.{ℤ}
 use lib.ListN.{length}
 use mir.Val.{boolByte}
 use Rattle.terms.specs.Answers.{valueOrZero}
 use Rattle.terms.specs.Limits.{greatestList, greatestFarthest, eyeHeight, objectHeight}
 use Rattle.terms.proofs.Laws.{not-outside}
-use Rattle.sight.specs.Sight.{least, availableSight}
+use Rattle.sight.specs.Sight.{availableSight}
 use Rattle.sight.specs.Operations.{sightAnswer}
-use Rattle.sight.proofs.Reach.{sight-le-far, sight-least}
+use Rattle.sight.proofs.Reach.{sight-le-far, sight-min}
 use Rattle.marks.specs.Marks.{bit, judged, lacking, markOf}
 
 -- ---- five bits in one byte
@@ -60,12 +60,12 @@ joined-sum a b c d e =
     (both-each (λ a. both (λ b. both (λ c. both (λ d. both (same a b c d))))) tt a) b) c) d) e)
 
 -- ---- one sight for both distances
-ltb-least : (a s : ℕ) → ltb (least a s) a ≡ ltb s a
-ltb-least a s = go (ltb a s) (ltb→lt a s) refl
+ltb-min : (a s : ℕ) → ltb (min a s) a ≡ ltb s a
+ltb-min a s = go (ltb s a) refl
   where
-    go : (t : Bool) → (T t → a < s) → ltb a s ≡ t → ltb (least a s) a ≡ ltb s a
-    go true l e = rw (e, le-ltb a a (omega arith), le-ltb s a (omega (arith, l tt))) refl
-    go false l e = rw e refl
+    go : (t : Bool) → ltb s a ≡ t → ltb (min a s) a ≡ t
+    go true e = lt-ltb (min a s) a (omega (arith, ltb-true s a e))
+    go false e = le-ltb (min a s) a (omega (arith, ltb-false s a e))
 
 -- what is lacking counts only where one distance or the other is judged
 sum-cong : (stop decide s d s′ d′ : Bool) → (T (stop || decide) → (s ≡ s′) × (d ≡ d′)) →
@@ -90,7 +90,7 @@ module _ (list : List ℤ) (i : ℕ) where
   -- what is seen up to a farther distance tells whether sight is below a nearer one
   lacking-farther : (R far : ℕ) → R ≤ far → ltb (markSight list i far) R ≡ lacking list R i
   lacking-farther R far l =
-      rw (sight-least list i eyeHeight objectHeight R far l) (sym (ltb-least R (markSight list i far)))
+      rw (sight-min list i eyeHeight objectHeight R far l) (sym (ltb-min R (markSight list i far)))
 
   -- the sight up to a distance not below either makes the mark; it is not asked for where neither is judged
   pub mark-by-sight : (stopping decision far s : ℕ) → stopping ≤ far → decision ≤ far →

@@ -1,44 +1,13 @@
 -- Laws of `reach`, and so of the available sight: what holds of it, that nothing else has that, and how it follows its limit.
-use mathlib.Core.Path.{_≡_, refl, sym, ap, _∙_, subst}
-use mathlib.Core.Bool.{Bool, true, false, not, cond}
+use mathlib.Core.Path.{_≡_, refl, sym, subst}
+use mathlib.Core.Bool.{Bool, true, false, cond}
 use mathlib.Core.List.{List}
-use mathlib.Core.Logic.{_⊎_, inl, inr, ⊎-elim}
-use Prim.Native.Nat.{ℕ, zero, suc, _+_, _-_, _≤_, _<_}
+use Prim.Native.Nat.{ℕ, zero, suc, _+_, _-_, _≤_, _<_, min}
 use native.Mathlib.Omega.{arith}
-use lib.Dec.{T, ltb, ltb→lt, nltb→le}
+use lib.Dec.{T}
 use lib.IntN.{ℤ}
 use lib.ListN.{length}
-use Rattle.sight.specs.Sight.{at, seen, reach, least, availableSight}
-
--- ---- the lesser of two
-least-either : (a b : ℕ) → ((a < b) × (least a b ≡ a)) ⊎ ((b ≤ a) × (least a b ≡ b))
-least-either a b = go (ltb a b) (ltb→lt a b) (nltb→le a b)
-  where
-    go : (c : Bool) → (T c → a < b) → (T (not c) → b ≤ a) →
-        ((a < b) × (cond c a b ≡ a)) ⊎ ((b ≤ a) × (cond c a b ≡ b))
-    go true f g = inl (f tt, refl)
-    go false f g = inr (g tt, refl)
-
-pub least-le-left : (a b : ℕ) → least a b ≤ a
-least-le-left a b = ⊎-elim (λ w. omega arith) (λ w. omega arith) (least-either a b)
-
-pub least-le-right : (a b : ℕ) → least a b ≤ b
-least-le-right a b = ⊎-elim (λ w. omega arith) (λ w. omega arith) (least-either a b)
-
-pub le-least : (a b m : ℕ) → m ≤ a → m ≤ b → m ≤ least a b
-le-least a b m h k = ⊎-elim (λ w. omega arith) (λ w. omega arith) (least-either a b)
-
-pub least-lt-left : (a b : ℕ) → least a b < a → least a b ≡ b
-least-lt-left a b l = ⊎-elim (λ w. absurd (omega arith)) (λ w. w .1) (least-either a b)
-
--- a farther limit between changes nothing
-least-nearer : (a b n : ℕ) → a ≤ b → least a n ≡ least a (least b n)
-least-nearer a b n l =
-    let x = least-le-left a n in let y = least-le-right a n in
-    let z = least-le-left a (least b n) in let w = least-le-right a (least b n) in
-    let up = le-least a (least b n) (least a n) x (le-least b n _ (omega arith) y) in
-    let down = le-least a n (least a (least b n)) z (omega (arith, least-le-right b n)) in
-    omega arith
+use Rattle.sight.specs.Sight.{at, seen, reach, availableSight}
 
 -- ---- reach, by what holds of it
 -- P holds of each t from 1 to s, and s is the limit or P fails of the next t
@@ -76,33 +45,28 @@ pub reach-le : (p : ℕ → Bool) (limit : ℕ) → reach p limit ≤ limit
 reach-le p limit = reach-is p limit .within
 
 -- up to a nearer limit it is the lesser of that and what it was
-pub reach-least : (p : ℕ → Bool) (a n : ℕ) → reach p (least a n) ≡ least a (reach p n)
-reach-least p a n = available-unique (reach-is p (least a n)) nearer
+pub reach-min : (p : ℕ → Bool) (a n : ℕ) → reach p (min a n) ≡ min a (reach p n)
+reach-min p a n = available-unique (reach-is p (min a n)) nearer
   where
-    nearer : Available (λ t. T (p t)) (least a n) (least a (reach p n))
+    nearer : Available (λ t. T (p t)) (min a n) (min a (reach p n))
     nearer =
-        let r = reach-is p n in let le = least-le-left a (reach p n) in let re = least-le-right a (reach p n) in
+        let r = reach-is p n in
         record {
-          within = le-least a n _ le (omega (arith, r .within));
+          within = omega (arith, r .within);
           all = λ t l m. r .all t l (omega arith);
-          stop = λ l x.
-              let q = least-lt-left a (reach p n) (omega (arith, least-le-left a n)) in
-              r .stop (omega (arith, least-le-right a n)) (rw q at x);
+          stop = λ l x. let q : min a (reach p n) ≡ reach p n = omega arith in r .stop (omega arith) (rw q at x);
         }
 
 -- ---- the available sight
 module _ (list : List ℤ) (i e o : ℕ) where
-  abbrev clear : ℕ → Bool
-  clear t = seen (at list) e o i (i + t)
-
-  abbrev ahead : ℕ
-  ahead = length list - 1 - i
-
   pub sight-le-far : (far : ℕ) → availableSight list i e o far ≤ far
   unfolding availableSight
-  sight-le-far far = omega (arith, reach-le clear (least far ahead), least-le-left far ahead)
+  sight-le-far far = omega (arith, reach-le (λ t. seen (at list) e o i (i + t)) (min far (length list - 1 - i)))
 
   -- sight up to a nearer distance is the lesser of that and the sight up to a farther one
-  pub sight-least : (a b : ℕ) → a ≤ b → availableSight list i e o a ≡ least a (availableSight list i e o b)
+  pub sight-min : (a b : ℕ) → a ≤ b → availableSight list i e o a ≡ min a (availableSight list i e o b)
   unfolding availableSight
-  sight-least a b l = ap (reach clear) (least-nearer a b ahead l) ∙ reach-least clear a (least b ahead)
+  sight-min a b l =
+      let n = length list - 1 - i in
+      let nearer : min a n ≡ min a (min b n) = omega arith in
+      rw nearer (reach-min (λ t. seen (at list) e o i (i + t)) a (min b n))

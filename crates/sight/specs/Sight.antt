@@ -1,8 +1,7 @@
 -- Document 01, "What can be seen": seen, and the available sight, over any heights.
-use Prim.Native.Nat.{ℕ, zero, suc, _+_, _-_}
+use Prim.Native.Nat.{ℕ, zero, suc, _+_, _-_, min}
 use mathlib.Core.Bool.{Bool, true, cond, _&&_}
 use mathlib.Core.List.{List}
-use lib.Dec.{ltb}
 use lib.IntN.{ℤ, pos, _+ℤ_, _*ℤ_}
 use lib.ListN.{length, getD}
 use lib.Signed.{leZ}
@@ -31,10 +30,6 @@ unfoldable pub reach : (ℕ → Bool) → ℕ → ℕ
 reach p zero = 0
 reach p (suc n) = cond (p 1) (suc (reach (λ t. p (suc t)) n)) 0
 
--- the lesser of two
-abbrev pub least : ℕ → ℕ → ℕ
-least a b = cond (ltb a b) a b
-
 -- the available sight from station i: at most the farthest distance and at most the stations left
 unfoldable pub availableSight : List ℤ → ℕ → ℕ → ℕ → ℕ → ℕ
-availableSight list i e o far = reach (λ t. seen (at list) e o i (i + t)) (least far (length list - 1 - i))
+availableSight list i e o far = reach (λ t. seen (at list) e o i (i + t)) (min far (length list - 1 - i))

@@ -2,13 +2,11 @@
 -- stations left.
 use mathlib.Core.Path.{_≡_, refl}
 use mathlib.Core.Logic.{⊎-elim}
-use Prim.Native.Nat.{_+_, _-_}
-use native.Mathlib.Nat.{le-refl}
+use Prim.Native.Nat.{_+_, _-_, min}
 use borrow.Author.Needs.{needs}
 use native.Mathlib.Omega.{arith}
 use lib.ListN.{length}
-use Rattle.sight.specs.Sight.{reach, least, availableSight}
-use Rattle.sight.proofs.Reach.{le-least, least-le-left, least-le-right}
+use Rattle.sight.specs.Sight.{reach, availableSight}
 use Rattle.sight.proofs.available.Statement.{statement}
 use Rattle.sight.proofs.available.Tie as tie
 
@@ -19,18 +17,11 @@ add-end : tie.Need-add-end
 add-end c = search needs
 
 end-is : (c : tie.Joined1) →
-    let s = c .before .args in c .if1 .end ≡ least (s .far) (length (s .heights .now) - 1 - s .i) + 1
-end-is c =
-    let s = c .before .args in
-    let left = length (s .heights .now) - 1 - s .i in
-    let a = least-le-left (s .far) left in let b = least-le-right (s .far) left in
-    ⊎-elim
-    (λ w. let m = le-least (s .far) left (s .far) (le-refl _) (omega arith) in omega arith)
-    (λ w. let m = le-least (s .far) left left (omega arith) (le-refl _) in omega arith)
-    (c .if1 .came)
+    let s = c .before .args in c .if1 .end ≡ min (s .far) (length (s .heights .now) - 1 - s .i) + 1
+end-is c = ⊎-elim (λ w. omega arith) (λ w. omega arith) (c .if1 .came)
 
 limit-is : (c : tie.Joined1) →
-    let s = c .before .args in c .if1 .end - 1 ≡ least (s .far) (length (s .heights .now) - 1 - s .i)
+    let s = c .before .args in c .if1 .end - 1 ≡ min (s .far) (length (s .heights .now) - 1 - s .i)
 limit-is c = omega (arith, end-is c)
 
 returns : tie.Need-returns
@@ -40,10 +31,7 @@ returns c =
     rw (← limit-is (c .before), e) refl
 
 search-sight-requires : tie.Need-search-sight-requires
-search-sight-requires c κs =
-    let s = c .before .before .args in
-    let left = length (s .heights .now) - 1 - s .i in
-    omega (arith, end-is (c .before), least-le-left (s .far) left, least-le-right (s .far) left)
+search-sight-requires c κs = omega (arith, end-is (c .before))
 
 returns-2 : tie.Need-returns-2
 unfolding availableSight
