@@ -3,7 +3,7 @@
 use mathlib.Core.Path.{_≡_, ap, _∙_}
 use mathlib.Core.Bool.{false}
 use mathlib.Core.List.{List}
-use Prim.Native.Nat.{ℕ, _+_, _-_, _≤_, _<_, min}
+use Prim.Native.Nat.{ℕ, _+_, _-_, _≤_, _<_}
 use native.Mathlib.Omega.{arith}
 use borrow.Author.Tests.{le-ltb, lt-leb}
 use lib.Dec.{T}
@@ -26,8 +26,8 @@ use Rattle.heights.specs.Heights.{heightsAnswer, heightsList}
 use Rattle.heights.proofs.Profile.{stored-floor}
 use Rattle.sight.specs.Sight.{at, clears, seen, availableSight}
 use Rattle.sight.specs.Operations.{sightAnswer, profileAnswer, profileList}
-use Rattle.sight.proofs.Reach.{available-mono, reach-is}
-use Rattle.sight.proofs.Seen.{every-at, every-by}
+use Rattle.sight.proofs.Reach.{sight-mono}
+use Rattle.sight.proofs.Seen.{between-at, between-by}
 use Rattle.accuracy.specs.ExactSight.{clearsExactly, seenExactly, exactSight}
 use Rattle.accuracy.specs.Accuracy.{AccuracyRule}
 use Rattle.accuracy.proofs.Fractions.{exact-then-stored, stored-then-exact}
@@ -52,36 +52,32 @@ module _ (H : ℕ → Frac) (h : ℕ → ℤ) (e o i j : ℕ) (floors : (k : ℕ
 
   seen-of-exact : T (seenExactly H e o i j) → T (seen h (e + 1) (o + 1) i j)
   unfolding seen seenExactly
-  seen-of-exact t = every-by _ _ (λ d l. clears-of-exact (i + 1 + d) (omega arith) (omega arith) (every-at _ _ t d l))
+  seen-of-exact t = between-by i j _ (λ k l m. clears-of-exact k l m (between-at i j _ t k l m))
 
   exact-of-seen : T (seen h e o i j) → T (seenExactly H (e + 1) (o + 1) i j)
   unfolding seen seenExactly
-  exact-of-seen t = every-by _ _ (λ d l. exact-of-clears (i + 1 + d) (omega arith) (omega arith) (every-at _ _ t d l))
+  exact-of-seen t = between-by i j _ (λ k l m. exact-of-clears k l m (between-at i j _ t k l m))
 
 -- ---- how far is seen: a road, and a list of just its stored heights
-module _ (r : Road) (list : List ℤ) (i far : ℕ) (on : i ≤ r .length) (size : length list ≡ r .length + 1)
+module _ (r : Road) (list : List ℤ) (i far : ℕ) (size : length list ≡ r .length + 1)
     (stored : (k : ℕ) → k ≤ r .length → at list k ≡ storedHeight r k) where
-  floors : (t : ℕ) → t ≤ min far (r .length - i) → (k : ℕ) → k ≤ i + t → Floor (exactHeight r k) (at list k)
-  floors t l k m =
-      let within : k ≤ r .length = omega arith in
-      rw (stored k within) (stored-floor r k)
+  floors : (j : ℕ) → j ≤ r .length → (k : ℕ) → k ≤ j → Floor (exactHeight r k) (at list k)
+  floors j l k m = rw (stored k (omega arith)) (stored-floor r k)
 
-  left : length list - 1 - i ≡ r .length - i
-  left = omega arith
+  last : length list - 1 ≡ r .length
+  last = omega arith
 
   exact-le-sight : (e o : ℕ) → exactSight r i e o far ≤ availableSight list i (e + 1) (o + 1) far
   unfolding exactSight availableSight
   exact-le-sight e o =
-      rw left
-      (available-mono (λ t l. seen-of-exact (exactHeight r) (at list) e o i (i + t) (floors t l))
-      (reach-is _ _) (reach-is _ _))
+      rw last
+      (sight-mono i (r .length) far _ _ (λ j l m. seen-of-exact (exactHeight r) (at list) e o i j (floors j m)))
 
   sight-le-exact : (e o : ℕ) → availableSight list i e o far ≤ exactSight r i (e + 1) (o + 1) far
   unfolding exactSight availableSight
   sight-le-exact e o =
-      rw left
-      (available-mono (λ t l. exact-of-seen (exactHeight r) (at list) e o i (i + t) (floors t l))
-      (reach-is _ _) (reach-is _ _))
+      rw last
+      (sight-mono i (r .length) far _ _ (λ j l m. exact-of-seen (exactHeight r) (at list) e o i j (floors j m)))
 
 -- ---- a road's own heights
 module _ (r : Road) (list : List ℤ) (ok : roadVerdict r ≡ Accepted) (size : length list ≡ r .length + 1) where
@@ -157,6 +153,6 @@ accuracy r list sights i e o far ok size room on e-low e-high o-low o-high far-l
       in-profile = profile-at a sights (omega arith) i (omega arith);
       at-least =
           rw (lowered e e-low, lowered o o-low) at
-          (exact-le-sight r own i far on n (own-height r list ok size) (e - 1) (o - 1));
-      at-most = sight-le-exact r own i far on n (own-height r list ok size) e o;
+          (exact-le-sight r own i far n (own-height r list ok size) (e - 1) (o - 1));
+      at-most = sight-le-exact r own i far n (own-height r list ok size) e o;
     }

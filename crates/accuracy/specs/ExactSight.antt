@@ -1,13 +1,13 @@
 -- Document 01, "What can be seen": the sight distance on the exact parabolas and straights. It is the available sight by the
 -- same definition, with the exact heights of all stations 0 to N, as fractions, in place of the stored ones.
-use Prim.Native.Nat.{ℕ, _+_, _*_, _-_, min}
+use Prim.Native.Nat.{ℕ, _*_, _-_}
 use mathlib.Core.Bool.{Bool}
 use lib.IntN.{pos, _+ℤ_, _*ℤ_}
 use lib.Signed.{leZ}
 use Rattle.whole.specs.Floor.{Frac}
 use Rattle.road.specs.declared.Road.{Road}
 use Rattle.heights.specs.Profile.{exactHeight}
-use Rattle.sight.specs.Sight.{every, reach}
+use Rattle.sight.specs.Sight.{everyBetween, sightFrom}
 
 -- ---- fractions of whole numbers with positive denominators
 -- n more than q
@@ -35,8 +35,8 @@ clearsExactly h e o i j k = leF (h k *F (j - i)) (raised (h i) e *F (j - k) +F r
 
 -- the object at j is seen from i: every station strictly between lets the line pass
 unfoldable pub seenExactly : (ℕ → Frac) → ℕ → ℕ → ℕ → ℕ → Bool
-seenExactly h e o i j = every (λ d. clearsExactly h e o i j (i + 1 + d)) (j - (i + 1))
+seenExactly h e o i j = everyBetween i j (clearsExactly h e o i j)
 
--- the sight on the exact profile from station i: at most the farthest distance and at most the stations left to N
+-- the sight on the exact profile from station i; the last station is N
 unfoldable pub exactSight : Road → ℕ → ℕ → ℕ → ℕ → ℕ
-exactSight r i e o far = reach (λ t. seenExactly (exactHeight r) e o i (i + t)) (min far (r .length - i))
+exactSight r i e o far = sightFrom i (r .length) far (seenExactly (exactHeight r) e o i)

@@ -1,4 +1,5 @@
--- Laws of `reach`, and so of the available sight: what holds of it, that nothing else has that, and how it follows its limit.
+-- Laws of `reach`, and so of the available sight: what holds of it, that nothing else has that, and how it follows its limit and
+-- what is seen.
 use mathlib.Core.Path.{_≡_, refl, sym, subst}
 use mathlib.Core.Bool.{Bool, true, false, cond}
 use mathlib.Core.List.{List}
@@ -7,7 +8,7 @@ use native.Mathlib.Omega.{arith}
 use lib.Dec.{T}
 use lib.IntN.{ℤ}
 use lib.ListN.{length}
-use Rattle.sight.specs.Sight.{at, seen, reach, availableSight}
+use Rattle.sight.specs.Sight.{at, seen, reach, sightFrom, availableSight}
 
 -- ---- reach, by what holds of it
 -- P holds of each t from 1 to s, and s is the limit or P fails of the next t
@@ -16,15 +17,16 @@ pub record Available (P : ℕ → Type 0) (limit s : ℕ) : Type 0 where
   pub all : (t : ℕ) → 0 < t → t ≤ s → P t
   pub stop : s < limit → P (suc s) → ⊥
 
-pub available-mono : {P Q : ℕ → Type 0} {limit s r : ℕ} → ((t : ℕ) → t ≤ limit → P t → Q t) →
+available-mono : {P Q : ℕ → Type 0} {limit s r : ℕ} → ((t : ℕ) → 0 < t → t ≤ limit → P t → Q t) →
     Available P limit s → Available Q limit r → s ≤ r
 available-mono {limit} {s} {r} f a b =
     let w = a .within in
-    let n : ¬ (r < s) = λ l. b .stop (omega arith) (f (suc r) (omega arith) (a .all (suc r) (omega arith) (omega arith))) in
+    let n : ¬ (r < s)
+    = λ l. b .stop (omega arith) (f (suc r) (omega arith) (omega arith) (a .all (suc r) (omega arith) (omega arith))) in
     omega arith
 
 pub available-unique : {P : ℕ → Type 0} {limit s r : ℕ} → Available P limit s → Available P limit r → s ≡ r
-available-unique a b = omega (arith, available-mono (λ t l p. p) a b, available-mono (λ t l p. p) b a)
+available-unique a b = omega (arith, available-mono (λ t l m p. p) a b, available-mono (λ t l m p. p) b a)
 
 pub reach-is : (p : ℕ → Bool) (limit : ℕ) → Available (λ t. T (p t)) limit (reach p limit)
 unfolding reach
@@ -57,15 +59,24 @@ reach-min p a n = available-unique (reach-is p (min a n)) nearer
           stop = λ l x. let q : min a (reach p n) ≡ reach p n = omega arith in r .stop (omega arith) (rw q at x);
         }
 
+-- ---- the sight from a station
+-- who sees more sees as far
+pub sight-mono : (i last far : ℕ) (p q : ℕ → Bool) → ((j : ℕ) → i < j → j ≤ last → T (p j) → T (q j)) →
+    sightFrom i last far p ≤ sightFrom i last far q
+unfolding sightFrom
+sight-mono i last far p q f =
+    available-mono (λ t l m. f (i + t) (omega arith) (omega arith))
+    (reach-is (λ t. p (i + t)) _) (reach-is (λ t. q (i + t)) _)
+
 -- ---- the available sight
 module _ (list : List ℤ) (i e o : ℕ) where
   pub sight-le-far : (far : ℕ) → availableSight list i e o far ≤ far
-  unfolding availableSight
+  unfolding availableSight sightFrom
   sight-le-far far = omega (arith, reach-le (λ t. seen (at list) e o i (i + t)) (min far (length list - 1 - i)))
 
   -- sight up to a nearer distance is the lesser of that and the sight up to a farther one
   pub sight-min : (a b : ℕ) → a ≤ b → availableSight list i e o a ≡ min a (availableSight list i e o b)
-  unfolding availableSight
+  unfolding availableSight sightFrom
   sight-min a b l =
       let n = length list - 1 - i in
       let nearer : min a n ≡ min a (min b n) = omega arith in

@@ -9,20 +9,31 @@ use lib.Dec.{T}
 use lib.IntN.{ℤ, pos, _+ℤ_, _*ℤ_}
 use lib.Signed.{_≤ℤ_, leZ-yes}
 use mir.Facts.{and-yes, yes-and}
-use Rattle.sight.specs.Sight.{clears, every, seen}
+use Rattle.sight.specs.Sight.{clears, every, everyBetween, seen}
 
--- ---- every
-pub every-at : (p : ℕ → Bool) (n : ℕ) → T (every p n) → (d : ℕ) → d < n → T (p d)
+-- ---- every station between
+every-at : (p : ℕ → Bool) (n : ℕ) → T (every p n) → (d : ℕ) → d < n → T (p d)
 unfolding every
 every-at p zero t d l = absurd (omega arith)
 every-at p (suc n) t d l =
     let w = and-yes (p n) (every p n) t in
     ⊎-elim (λ q. rw q (w .0)) (λ q. every-at p n (w .1) d q) (eq-or-lt-of-le {n = d} {m = n} (le-of-suc-le-suc l))
 
-pub every-by : (p : ℕ → Bool) (n : ℕ) → ((d : ℕ) → d < n → T (p d)) → T (every p n)
+every-by : (p : ℕ → Bool) (n : ℕ) → ((d : ℕ) → d < n → T (p d)) → T (every p n)
 unfolding every
 every-by p zero f = tt
 every-by p (suc n) f = yes-and (p n) (every p n) (f n (omega arith)) (every-by p n (λ d l. f d (omega arith)))
+
+module _ (i j : ℕ) (p : ℕ → Bool) where
+  pub between-at : T (everyBetween i j p) → (k : ℕ) → i < k → k < j → T (p k)
+  unfolding everyBetween
+  between-at t k l r =
+      let q : i + 1 + (k - (i + 1)) ≡ k = omega arith in
+      rw q at (every-at (λ d. p (i + 1 + d)) (j - (i + 1)) t (k - (i + 1)) (omega arith))
+
+  pub between-by : ((k : ℕ) → i < k → k < j → T (p k)) → T (everyBetween i j p)
+  unfolding everyBetween
+  between-by f = every-by (λ d. p (i + 1 + d)) (j - (i + 1)) (λ d l. f (i + 1 + d) (omega arith) (omega arith))
 
 -- ---- seen
 abbrev pub Seen : (ℕ → ℤ) → ℕ → ℕ → ℕ → ℕ → Type 0
@@ -32,10 +43,8 @@ Seen h e o i j = (k : ℕ) → i < k → k < j →
 module _ (h : ℕ → ℤ) (e o i j : ℕ) where
   pub seen-to : T (seen h e o i j) → Seen h e o i j
   unfolding seen clears
-  seen-to t k l r =
-      let q : i + 1 + (k - (i + 1)) ≡ k = omega arith in
-      leZ-yes (rw q at (every-at (λ d. clears h e o i j (i + 1 + d)) (j - (i + 1)) t (k - (i + 1)) (omega arith)))
+  seen-to t k l r = leZ-yes (between-at i j (clears h e o i j) t k l r)
 
   pub seen-by : Seen h e o i j → T (seen h e o i j)
   unfolding seen clears
-  seen-by s = every-by (λ d. clears h e o i j (i + 1 + d)) (j - (i + 1)) (λ d l. s (i + 1 + d) (omega arith) (omega arith) .le)
+  seen-by s = between-by i j (clears h e o i j) (λ k l r. s k l r .le)

@@ -1,4 +1,5 @@
--- Document 01, "What can be seen": seen, and the available sight, over any heights.
+-- Document 01, "What can be seen": seen, and the available sight, over any heights. `everyBetween` and `sightFrom` ask for no kind
+-- of heights: the sight on exact ones (crates/accuracy/specs/ExactSight.antt) is made of them too.
 use Prim.Native.Nat.{ℕ, zero, suc, _+_, _-_, min}
 use mathlib.Core.Bool.{Bool, true, cond, _&&_}
 use mathlib.Core.List.{List}
@@ -21,15 +22,24 @@ unfoldable pub every : (ℕ → Bool) → ℕ → Bool
 every p zero = true
 every p (suc n) = p n && every p n
 
+-- p holds of every station strictly between i and j
+unfoldable pub everyBetween : ℕ → ℕ → (ℕ → Bool) → Bool
+everyBetween i j p = every (λ d. p (i + 1 + d)) (j - (i + 1))
+
 -- the object at j is seen from i: every station strictly between lets the line pass
 unfoldable pub seen : (ℕ → ℤ) → ℕ → ℕ → ℕ → ℕ → Bool
-seen h e o i j = every (λ d. clears h e o i j (i + 1 + d)) (j - (i + 1))
+seen h e o i j = everyBetween i j (clears h e o i j)
 
 -- the greatest s up to a limit such that p holds of every t from 1 to s: the search stops at the first t that fails
 unfoldable pub reach : (ℕ → Bool) → ℕ → ℕ
 reach p zero = 0
 reach p (suc n) = cond (p 1) (suc (reach (λ t. p (suc t)) n)) 0
 
--- the available sight from station i: at most the farthest distance and at most the stations left
+-- the sight from station i: the greatest s, at most the farthest distance and at most the stations left to the last, such that
+-- the object is seen at every j from i + 1 to i + s
+unfoldable pub sightFrom : ℕ → ℕ → ℕ → (ℕ → Bool) → ℕ
+sightFrom i last far seenAt = reach (λ t. seenAt (i + t)) (min far (last - i))
+
+-- the available sight from station i, over a list of the heights of all stations
 unfoldable pub availableSight : List ℤ → ℕ → ℕ → ℕ → ℕ → ℕ
-availableSight list i e o far = reach (λ t. seen (at list) e o i (i + t)) (min far (length list - 1 - i))
+availableSight list i e o far = sightFrom i (length list - 1) far (seen (at list) e o i)

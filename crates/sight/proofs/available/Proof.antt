@@ -6,7 +6,7 @@ use Prim.Native.Nat.{_+_, _-_, min}
 use borrow.Author.Needs.{needs}
 use native.Mathlib.Omega.{arith}
 use lib.ListN.{length}
-use Rattle.sight.specs.Sight.{reach, availableSight}
+use Rattle.sight.specs.Sight.{reach, sightFrom, availableSight}
 use Rattle.sight.proofs.available.Statement.{statement}
 use Rattle.sight.proofs.available.Tie as tie
 
@@ -25,7 +25,7 @@ limit-is : (c : tie.Joined1) →
 limit-is c = omega (arith, end-is c)
 
 returns : tie.Need-returns
-unfolding availableSight reach
+unfolding availableSight sightFrom reach
 returns c =
     let e : c .before .if1 .end ≡ 1 = omega (arith, end-is (c .before)) in
     rw (← limit-is (c .before), e) refl
@@ -34,7 +34,7 @@ search-sight-requires : tie.Need-search-sight-requires
 search-sight-requires c κs = omega (arith, end-is (c .before))
 
 returns-2 : tie.Need-returns-2
-unfolding availableSight
+unfolding availableSight sightFrom
 returns-2 c = rw (limit-is (c .before .before)) at (c .search-sight .ensures)
 
 pub available-spec : {M : Type 1} → statement M
