@@ -1,4 +1,5 @@
-// Whole numbers: division that rounds down, the smaller of two, a difference that stops at 0, and in specs/ and proofs/ what the other crates define and prove by them.
+// Whole numbers: division that rounds down, the smaller of two, a difference that stops at 0, and in specs/ and proofs/ what the
+// other crates define and prove by them.
 ghost use mathlib.Core.Path.{_≡_};
 ghost use Prim.Native.Nat.{_-_, min};
 ghost use Rattle.whole.specs.Floor.{floorDiv};
