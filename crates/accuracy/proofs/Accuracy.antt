@@ -9,9 +9,8 @@ use borrow.Author.Tests.{le-ltb, lt-leb}
 use lib.Dec.{T}
 use lib.IntN.{ℤ, pos}
 use lib.ListN.{length, getD}
-use Rattle.whole.specs.Fill.{filled}
 use Rattle.whole.specs.Floor.{Frac}
-use Rattle.whole.proofs.Fill.{filled-length, filled-at}
+use Rattle.whole.proofs.Fill.{filled-at}
 use Rattle.whole.proofs.Floor.{Floor}
 use Rattle.terms.specs.Answers.{outside, listOutside, heightsOutside}
 use Rattle.terms.proofs.Laws.{not-outside, heights-not-outside}
@@ -22,8 +21,9 @@ use Rattle.road.specs.declared.Road.{Road}
 use Rattle.road.specs.Road.{roadVerdict}
 use Rattle.road.proofs.Accepted.{accepted-road}
 use Rattle.heights.specs.Profile.{exactHeight, storedHeight}
-use Rattle.heights.specs.Heights.{heightsAnswer, heightsList}
+use Rattle.heights.specs.Heights.{heightsList}
 use Rattle.heights.proofs.Profile.{stored-floor}
+use Rattle.heights.proofs.HeightsAnswer.{heights-number, heights-filled, heights-length}
 use Rattle.sight.specs.Sight.{at, clears, seen, availableSight}
 use Rattle.sight.specs.Operations.{sightAnswer, profileAnswer, profileList}
 use Rattle.sight.proofs.Reach.{sight-mono}
@@ -81,20 +81,12 @@ module _ (r : Road) (list : List ℤ) (i far : ℕ) (size : length list ≡ r .l
 
 -- ---- a road's own heights
 module _ (r : Road) (list : List ℤ) (ok : roadVerdict r ≡ Accepted) (size : length list ≡ r .length + 1) where
-  own-answer : heightsAnswer r list ≡ Number (r .length + 1)
-  unfolding heightsAnswer
-  own-answer = rw (ok, le-ltb (length list) (r .length + 1) (omega arith))
-
-  own-heights : heightsList r list ≡ filled (storedHeight r) 0 (r .length + 1) list
-  unfolding heightsList
-  own-heights = rw own-answer
-
   own-length : length (heightsList r list) ≡ r .length + 1
-  own-length = rw own-heights (filled-length (storedHeight r) 0 (r .length + 1) list ∙ size)
+  own-length = heights-length r list ∙ size
 
   own-height : (k : ℕ) → k ≤ r .length → at (heightsList r list) k ≡ storedHeight r k
   own-height k l =
-      rw own-heights
+      rw (heights-filled r list ok (omega arith))
       (filled-at (storedHeight r) 0 (r .length + 1) list k (pos 0) (omega arith) (omega arith) (omega arith))
 
 -- ---- answers that are no refusals
@@ -146,7 +138,7 @@ accuracy r list sights i e o far ok size room on e-low e-high o-low o-high far-l
     } in
     let lowered : (x : ℕ) → 1 ≤ x → x - 1 + 1 ≡ x = λ x l. omega arith in
     record {
-      heights = own-answer r list ok size;
+      heights = heights-number r list ok (omega arith);
       sight = availableSight own i e o far;
       from-station = sight-answered a i (omega arith);
       profile = profile-answered a sights (omega arith) ∙ ap Number n;

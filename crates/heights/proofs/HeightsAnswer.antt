@@ -1,30 +1,27 @@
--- The three ways Heights answers: the road's fault, the room, and the heights.
-use Prim.Native.Nat.{ℕ, _+_, _≤_, _<_}
+-- What Heights leaves: a list as long as before, and of an accepted road, where there is room, the heights.
+use Prim.Native.Nat.{_+_, _≤_}
 use mathlib.Core.List.{List}
-use mathlib.Core.Path.{_≡_, refl}
-use borrow.Author.Tests.{lt-ltb, le-ltb}
+use mathlib.Core.Path.{_≡_}
 use lib.IntN.{ℤ}
 use lib.ListN.{length}
 use Rattle.whole.specs.Fill.{filled}
-use Rattle.terms.specs.Refusals.{roomRefused}
-use Rattle.terms.specs.declared.Answer.the-variants.{Number, Refused}
-use Rattle.terms.specs.declared.Verdict.the-variants.{Accepted, Fault}
+use Rattle.terms.specs.declared.Answer.the-variants.{Number}
+use Rattle.terms.specs.declared.Verdict.the-variants.{Accepted}
+use Rattle.terms.proofs.Laws.{written-length, room-number}
 use Rattle.road.specs.declared.Road.{Road}
 use Rattle.road.specs.Road.{roadVerdict}
 use Rattle.heights.specs.Profile.{storedHeight}
 use Rattle.heights.specs.Heights.{heightsAnswer, heightsList}
 
-module _ (r : Road) (list : List ℤ) where
-  pub heights-fault : {k : ℕ} → roadVerdict r ≡ Fault k → (Refused k ≡ heightsAnswer r list) × (list ≡ heightsList r list)
-  unfolding heightsAnswer heightsList
-  heights-fault e = rw e (refl, refl)
+pub heights-length : (r : Road) (list : List ℤ) → length (heightsList r list) ≡ length list
+unfolding heightsList
+heights-length r list = written-length (storedHeight r) (heightsAnswer r list) list
 
-  pub heights-room : roadVerdict r ≡ Accepted → length list < r .length + 1 →
-      (Refused roomRefused ≡ heightsAnswer r list) × (list ≡ heightsList r list)
-  unfolding heightsAnswer heightsList
-  heights-room e l = rw (e, lt-ltb (length list) (r .length + 1) l) (refl, refl)
+module _ (r : Road) (list : List ℤ) (accepted : roadVerdict r ≡ Accepted) (room : r .length + 1 ≤ length list) where
+  pub heights-number : heightsAnswer r list ≡ Number (r .length + 1)
+  unfolding heightsAnswer
+  heights-number = room-number _ _ list accepted room
 
-  pub heights-filled : (out : List ℤ) → roadVerdict r ≡ Accepted → r .length + 1 ≤ length list → out ≡ filled (storedHeight r) 0 (r .length + 1) list →
-      (Number (r .length + 1) ≡ heightsAnswer r list) × (out ≡ heightsList r list)
-  unfolding heightsAnswer heightsList
-  heights-filled out e l f = rw (e, le-ltb (length list) (r .length + 1) l) (refl, f)
+  pub heights-filled : heightsList r list ≡ filled (storedHeight r) 0 (r .length + 1) list
+  unfolding heightsList
+  heights-filled = rw heights-number

@@ -1,22 +1,16 @@
 -- Document 01, "The road and its heights", Heights: the answer, and what the lent list holds at the end.
 use Prim.Native.Nat.{_+_}
 use mathlib.Core.List.{List}
-use lib.Dec.{ltb}
 use lib.IntN.{ℤ}
-use lib.ListN.{length}
-use Rattle.terms.specs.Answers.{unless, refuse, written}
-use Rattle.terms.specs.Refusals.{roomRefused}
+use Rattle.terms.specs.Answers.{unless, roomFor, written}
 use Rattle.terms.specs.declared.Answer.{Answer}
-use Rattle.terms.specs.declared.Answer.the-variants.{Number}
 use Rattle.road.specs.declared.Road.{Road}
 use Rattle.road.specs.Road.{roadVerdict}
 use Rattle.heights.specs.Profile.{storedHeight}
 
 -- refused as the road is, then 14; else how many places are written, N + 1
 unfoldable pub heightsAnswer : Road → List ℤ → Answer
-heightsAnswer r list =
-    unless (roadVerdict r)
-    (refuse (ltb (length list) (r .length + 1)) roomRefused (Number (r .length + 1)))
+heightsAnswer r list = unless (roadVerdict r) (roomFor (r .length + 1) list)
 
 -- the first N + 1 places hold the heights of stations 0 to N, the others stay; where it is refused all stay
 unfoldable pub heightsList : Road → List ℤ → List ℤ

@@ -12,6 +12,7 @@ use Rattle.terms.specs.Limits.{lastBit, greatestList}
 use Rattle.terms.specs.declared.Answer.{Answer}
 use Rattle.terms.specs.declared.Answer.the-variants.{Number, Refused}
 use Rattle.terms.specs.declared.Verdict.the-variants.{Accepted}
+use Rattle.terms.proofs.Laws.{room-number}
 use Rattle.file.specs.File.{roadIn}
 use Rattle.file.specs.Reading.{readVerdict}
 use Rattle.marks.specs.Marks.{markFor}
@@ -69,7 +70,7 @@ module _ (file : List ℕ) (accepted : readVerdict file ≡ Accepted) where
   marks-filled : (list : List ℕ) → roadIn file .length + 1 ≤ length list →
       markFileList file list ≡ filled markAt 0 (roadIn file .length + 1) list
   unfolding markFileList markFileAnswer
-  marks-filled list l = rw (accepted, le-ltb (length list) (roadIn file .length + 1) l) refl
+  marks-filled list l = rw (room-number _ _ list accepted l)
 
   -- the first N + 1 places of a list with room for them
   pub own-marks-front : (list : List ℕ) → roadIn file .length + 1 ≤ length list →

@@ -8,14 +8,12 @@ use borrow.Author.Tests.{lt-ltb, ltb-false}
 use native.Mathlib.Omega.{arith}
 use lib.Dec.{ltb}
 use lib.ListN.{length, getD, replicate, length-append, length-replicate}
-use Rattle.whole.proofs.Fill.{filled-length}
-use Rattle.terms.specs.Answers.{written}
 use Rattle.terms.specs.Limits.{lastBit, greatestList}
 use Rattle.terms.specs.Refusals.{roomRefused}
-use Rattle.terms.specs.declared.Answer.{Answer}
-use Rattle.terms.specs.declared.Answer.the-variants.{Number, Refused}
+use Rattle.terms.specs.declared.Answer.the-variants.{Number}
 use Rattle.terms.specs.declared.Verdict.{Verdict}
 use Rattle.terms.specs.declared.Verdict.the-variants.{Accepted, Fault}
+use Rattle.terms.proofs.Laws.{written-length}
 use Rattle.road.proofs.Accepted.{accepted-road}
 use Rattle.file.specs.File.{roadIn, version}
 use Rattle.file.specs.Reading.{readVerdict}
@@ -107,10 +105,6 @@ module _ (marks : List ℕ) (h : length marks ≤ greatestList) where
 -- a first line of at most 22 bytes, and for each of 5 letters at most 4,001 zones with a line of at most 14 bytes
 abbrev pub greatestListing : ℕ
 greatestListing = 280092
-
-written-length : (f : ℕ → ℕ) (a : Answer) (xs : List ℕ) → length (written f a xs) ≡ length xs
-written-length f (Number n) xs = filled-length f 0 n xs
-written-length f (Refused k) xs = refl
 
 own-marks-length : (file : List ℕ) → length (ownMarks file) ≡ roadIn file .length + 1
 unfolding ownMarks markFileList

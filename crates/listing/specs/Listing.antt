@@ -4,11 +4,9 @@ use mathlib.Core.Bool.{cond}
 use mathlib.Core.List.{List, [], _∷_, _++_}
 use lib.Dec.{ltb}
 use lib.ListN.{length, replicate, getD}
-use Rattle.terms.specs.Answers.{refuse, written}
+use Rattle.terms.specs.Answers.{roomFor, written}
 use Rattle.terms.specs.Limits.{lastBit}
-use Rattle.terms.specs.Refusals.{roomRefused}
 use Rattle.terms.specs.declared.Answer.{Answer}
-use Rattle.terms.specs.declared.Answer.the-variants.{Number}
 use Rattle.terms.specs.declared.Verdict.{Verdict}
 use Rattle.terms.specs.declared.Verdict.the-variants.{Accepted, Fault}
 use Rattle.file.specs.File.{roadIn, letters, version}
@@ -101,7 +99,7 @@ listing file = textFor (readVerdict file) file
 -- ---- the operation: refused 14 where the buffer is shorter than the listing, a refusal that document 01 leaves free; else how many
 -- bytes are written
 unfoldable pub listAnswer : List ℕ → List ℕ → Answer
-listAnswer file buffer = let n = length (listing file) in refuse (ltb (length buffer) n) roomRefused (Number n)
+listAnswer file buffer = roomFor (length (listing file)) buffer
 
 -- the text from byte 0 on, bytes beyond stay; where it is refused all stay
 unfoldable pub listBuffer : List ℕ → List ℕ → List ℕ

@@ -35,7 +35,7 @@ module _ (r : Road) where
     unfolding ownHeights
     own-front list l =
         let h = storedHeight r in let n = r .length + 1 in
-        rw (← heights-filled r list _ accepted l refl .1)
+        rw (heights-filled r list accepted l)
         (filled-take h 0 n n list (omega arith)
         ∙ filled-whole h n (take n list) (replicate n (pos 0)) (length-take-le n list l) (length-replicate n (pos 0)))
 

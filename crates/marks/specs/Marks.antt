@@ -5,11 +5,10 @@ use mathlib.Core.List.{List}
 use lib.Dec.{ltb, leb}
 use lib.IntN.{ℤ}
 use lib.ListN.{length}
-use Rattle.terms.specs.Answers.{outside, listOutside, refuse, written, valueOrZero}
+use Rattle.terms.specs.Answers.{outside, listOutside, refuse, roomFor, written, valueOrZero}
 use Rattle.terms.specs.Limits.{leastSpeed, greatestSpeed, stoppingPurpose, firstDecision, lastPurpose, eyeHeight, objectHeight}
-use Rattle.terms.specs.Refusals.{speedRefused, purposeRefused, listRefused, roomRefused}
+use Rattle.terms.specs.Refusals.{speedRefused, purposeRefused, listRefused}
 use Rattle.terms.specs.declared.Answer.{Answer}
-use Rattle.terms.specs.declared.Answer.the-variants.{Number}
 use Rattle.distance.specs.Distance.{requiredDistance}
 use Rattle.sight.specs.Sight.{availableSight}
 
@@ -57,8 +56,7 @@ marksAnswer speed purpose heights marks =
     refuse (outside leastSpeed greatestSpeed speed) speedRefused
     (refuse (outside firstDecision lastPurpose purpose) purposeRefused
     (refuse (listOutside (length heights)) listRefused
-    (refuse (ltb (length marks) (length heights)) roomRefused
-    (Number (length heights)))))
+    (roomFor (length heights) marks)))
 
 -- each station's byte is its mark, bytes beyond stay; where it is refused all stay
 unfoldable pub marksList : ℕ → ℕ → List ℤ → List ℕ → List ℕ

@@ -1,14 +1,11 @@
 -- Document 01, "Marks and zones": marking a road file.
 use Prim.Native.Nat.{ℕ, _+_}
 use mathlib.Core.List.{List}
-use lib.Dec.{ltb}
 use lib.IntN.{ℤ, pos}
-use lib.ListN.{length, replicate}
+use lib.ListN.{replicate}
 use Rattle.whole.specs.Fill.{filled}
-use Rattle.terms.specs.Answers.{unless, refuse, written}
-use Rattle.terms.specs.Refusals.{roomRefused}
+use Rattle.terms.specs.Answers.{unless, roomFor, written}
 use Rattle.terms.specs.declared.Answer.{Answer}
-use Rattle.terms.specs.declared.Answer.the-variants.{Number}
 use Rattle.road.specs.declared.Road.{Road}
 use Rattle.heights.specs.Profile.{storedHeight}
 use Rattle.file.specs.File.{roadIn}
@@ -21,9 +18,7 @@ ownHeights r = filled (storedHeight r) 0 (r .length + 1) (replicate (r .length +
 
 -- refused as reading is, then 14; else the number of stations, N + 1
 unfoldable pub markFileAnswer : List ℕ → List ℕ → Answer
-markFileAnswer file marks =
-    unless (readVerdict file)
-    (let stations = roadIn file .length + 1 in refuse (ltb (length marks) stations) roomRefused (Number stations))
+markFileAnswer file marks = unless (readVerdict file) (roomFor (roadIn file .length + 1) marks)
 
 -- the marks of its road's heights for its own speed and purpose, bytes beyond stay; where it is refused all stay
 unfoldable pub markFileList : List ℕ → List ℕ → List ℕ

@@ -6,13 +6,16 @@ use mathlib.Core.Path.{_≡_, refl, sym, subst}
 use native.Mathlib.Omega.{arith}
 use mir.Syntax.{w32}
 use mir.Val.{SFits}
-use borrow.Author.Tests.{le-ltb}
+use borrow.Author.Tests.{lt-ltb, le-ltb}
 use lib.Dec.{T, ltb, nltb→le}
 use lib.IntN.{ℤ}
+use lib.ListN.{length}
 use lib.Signed.{_≤ℤ_, ltZ, ltZ-yes, ltZ-no, clashℤ}
 use Rattle.whole.specs.Fill.{filled}
-use Rattle.terms.specs.Answers.{outside, outsideℤ, heightsOutside, refuse, written, fault, unless, valueOrZero, signed}
+use Rattle.whole.proofs.Fill.{filled-length}
+use Rattle.terms.specs.Answers.{outside, outsideℤ, heightsOutside, refuse, roomFor, written, fault, unless, valueOrZero, signed}
 use Rattle.terms.specs.Limits.{greatestHeight}
+use Rattle.terms.specs.Refusals.{roomRefused}
 use Rattle.terms.specs.declared.Answer.{Answer}
 use Rattle.terms.specs.declared.Answer.the-variants.{Number, Refused}
 use Rattle.terms.specs.declared.Verdict.{Verdict}
@@ -47,6 +50,28 @@ module _ {A : Type 0} (f : ℕ → A) (answer : Answer) (xs : List A) where
   pub written-number :
       (n : ℕ) (out : List A) → answer ≡ Number n → out ≡ filled f 0 n xs → (Number n ≡ answer) × (out ≡ written f answer xs)
   written-number n out e p = (sym e, rw e p)
+
+pub written-length : {A : Type 0} (f : ℕ → A) (answer : Answer) (xs : List A) → length (written f answer xs) ≡ length xs
+written-length f (Number n) xs = filled-length f 0 n xs
+written-length f (Refused k) xs = refl
+
+-- accepted, and the list has room
+pub room-number : {A : Type 0} (v : Verdict) (n : ℕ) (xs : List A) → v ≡ Accepted → n ≤ length xs → unless v (roomFor n xs) ≡ Number n
+room-number v n xs e l = rw (e, le-ltb (length xs) n l)
+
+-- the three ways in which an operation ends that is refused by a verdict, then 14, and else writes the first n places
+module _ {A : Type 0} (f : ℕ → A) (v : Verdict) (n : ℕ) (xs : List A) where
+  abbrev pub Ends : Answer → List A → Type 0
+  Ends a out = let answer = unless v (roomFor n xs) in (a ≡ answer) × (out ≡ written f answer xs)
+
+  pub ends-fault : {k : ℕ} → v ≡ Fault k → Ends (Refused k) xs
+  ends-fault e = rw e (refl, refl)
+
+  pub ends-no-room : v ≡ Accepted → length xs < n → Ends (Refused roomRefused) xs
+  ends-no-room e l = rw (e, lt-ltb (length xs) n l) (refl, refl)
+
+  pub ends-filled : (out : List A) → v ≡ Accepted → n ≤ length xs → out ≡ filled f 0 n xs → Ends (Number n) out
+  ends-filled out e l p = written-number f _ xs n out (room-number v n xs e l) p
 
 -- ---- verdicts
 -- a fault is no acceptance

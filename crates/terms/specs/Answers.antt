@@ -4,9 +4,11 @@ use mathlib.Core.Bool.{Bool, cond, _||_}
 use mathlib.Core.List.{List}
 use lib.Dec.{ltb}
 use lib.IntN.{ℤ, pos, negℤ}
+use lib.ListN.{length}
 use lib.Signed.{ltZ}
 use Rattle.whole.specs.Fill.{filled}
 use Rattle.terms.specs.Limits.{greatestList, greatestHeight}
+use Rattle.terms.specs.Refusals.{roomRefused}
 use Rattle.terms.specs.declared.Answer.{Answer}
 use Rattle.terms.specs.declared.Answer.the-variants.{Number, Refused}
 use Rattle.terms.specs.declared.Verdict.{Verdict}
@@ -45,6 +47,10 @@ firstFault (Fault k) rest = Fault k
 abbrev pub unless : Verdict → Answer → Answer
 unless Accepted rest = rest
 unless (Fault k) rest = Refused k
+
+-- refused 14 where a lent list has fewer than n places; else n, the number of places that are written
+abbrev pub roomFor : {A : Type 0} → ℕ → List A → Answer
+roomFor n list = refuse (ltb (length list) n) roomRefused (Number n)
 
 -- what a lent list holds at the end where f is written from its place 0 on: as many places as the answer says hold f of
 -- their index, the others stay; where the answer is a refusal all stay

@@ -4,7 +4,6 @@ use mathlib.Core.Path.{_≡_, refl, sym, ap, _∙_}
 use mathlib.Core.List.{List}
 use Prim.Native.Nat.{ℕ, _≤_}
 use native.Mathlib.Omega.{arith}
-use borrow.Author.Tests.{le-ltb}
 use lib.ListN.{length, take}
 use lib.Seq.{ext-getD, getD-take, length-take-le}
 use Rattle.whole.specs.Fill.{filled}
@@ -12,6 +11,7 @@ use Rattle.whole.proofs.Fill.{filled-length, filled-at}
 use Rattle.terms.specs.Limits.{greatestCurveCount}
 use Rattle.terms.specs.declared.Answer.the-variants.{Number}
 use Rattle.terms.specs.declared.Verdict.the-variants.{Accepted}
+use Rattle.terms.proofs.Laws.{room-number}
 use Rattle.road.specs.declared.Road.{Road}
 use Rattle.road.specs.Road.{roadVerdict}
 use Rattle.road.proofs.Accepted.{accepted-road}
@@ -35,7 +35,7 @@ take-filled l xs n e h =
 module _ (r : Road) (accepted : roadVerdict r ≡ Accepted) (buffer : List ℕ) (room : fileLength (r .count) ≤ length buffer) where
   pub written-answer : writeAnswer r buffer ≡ Number (fileLength (r .count))
   unfolding writeAnswer
-  written-answer = rw (accepted, le-ltb _ _ room) refl
+  written-answer = room-number _ _ buffer accepted room
 
   pub written-front : r .count ≤ length (r .curves) → take (fileLength (r .count)) (writeList r buffer) ≡ fileBytes r
   unfolding writeList

@@ -1,12 +1,8 @@
 -- Document 01, "Road file": writing.
 use Prim.Native.Nat.{ℕ}
 use mathlib.Core.List.{List}
-use lib.Dec.{ltb}
-use lib.ListN.{length}
-use Rattle.terms.specs.Answers.{unless, refuse, written}
-use Rattle.terms.specs.Refusals.{roomRefused}
+use Rattle.terms.specs.Answers.{unless, roomFor, written}
 use Rattle.terms.specs.declared.Answer.{Answer}
-use Rattle.terms.specs.declared.Answer.the-variants.{Number}
 use Rattle.road.specs.declared.Road.{Road}
 use Rattle.road.specs.Road.{roadVerdict}
 use Rattle.file.specs.File.{byteAt, fileLength}
@@ -14,9 +10,7 @@ use Rattle.writing.specs.Bytes.{fileBytes}
 
 -- writing: refused as the road is, then 14; else how many bytes are written
 unfoldable pub writeAnswer : Road → List ℕ → Answer
-writeAnswer r buffer =
-    unless (roadVerdict r)
-    (refuse (ltb (length buffer) (fileLength (r .count))) roomRefused (Number (fileLength (r .count))))
+writeAnswer r buffer = unless (roadVerdict r) (roomFor (fileLength (r .count)) buffer)
 
 -- the file's bytes from byte 0 on, bytes beyond stay; where it is refused all stay
 unfoldable pub writeList : Road → List ℕ → List ℕ

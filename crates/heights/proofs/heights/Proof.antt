@@ -1,12 +1,14 @@
--- `heights::heights` meets its contract: each return is one of the three ways of proofs/HeightsAnswer.antt, and an accepted road is
--- short enough for N + 1.
+-- `heights::heights` meets its contract: each return is one of the three ways in which such an operation ends, and an accepted
+-- road is short enough for N + 1.
 use mathlib.Core.Path.{_≡_, sym, _∙_}
 use borrow.Author.Needs.{needs}
 use native.Mathlib.Omega.{arith}
 use Rattle.terms.specs.declared.Verdict.the-variants.{Accepted}
+use Rattle.terms.proofs.Laws.{ends-fault, ends-no-room, ends-filled}
 use Rattle.road.specs.Road.{roadVerdict}
 use Rattle.road.proofs.Accepted.{accepted-road}
-use Rattle.heights.proofs.HeightsAnswer.{heights-fault, heights-room, heights-filled}
+use Rattle.heights.specs.Profile.{storedHeight}
+use Rattle.heights.specs.Heights.{heightsAnswer, heightsList}
 use Rattle.heights.proofs.heights.Statement.{statement}
 use Rattle.heights.proofs.heights.Tie as tie
 
@@ -21,9 +23,10 @@ enum-known-number : tie.Need-enum-known-number
 enum-known-number c = search needs
 
 returns : tie.Need-returns
+unfolding heightsAnswer heightsList
 returns c =
     let v = c .before .before .before in
-    heights-fault (v .before .args .road) _ (sym (v .verdict .ensures) ∙ c .before .number .given .1)
+    ends-fault (storedHeight _) _ _ _ (sym (v .verdict .ensures) ∙ c .before .number .given .1)
 
 enum-told : tie.Need-enum-told
 enum-told c = search needs
@@ -35,7 +38,8 @@ cast-if1 : tie.Need-cast-if1
 cast-if1 c = search needs
 
 returns-2 : tie.Need-returns-2
-returns-2 c = heights-room _ _ (accepted (c .before .before)) (c .if1 .taken)
+unfolding heightsAnswer heightsList
+returns-2 c = ends-no-room (storedHeight _) _ _ _ (accepted (c .before .before)) (c .if1 .taken)
 
 fill-road-requires : tie.Need-fill-road-requires
 fill-road-requires c κs = (accepted (c .before .before .before), omega arith)
@@ -44,9 +48,10 @@ same-length : tie.Need-same-length
 same-length c = search needs
 
 returns-3 : tie.Need-returns-3
+unfolding heightsAnswer heightsList
 returns-3 c =
-    heights-filled _ _ _ (accepted (c .before .before .before .before .before)) (c .before .before .before .if1 .left)
-    (c .before .fill-road .ensures)
+    let room = c .before .before .before in
+    ends-filled _ _ _ _ _ (accepted (room .before .before)) (room .if1 .left) (c .before .fill-road .ensures)
 
 pub heights-spec : {M : Type 1} → statement M
 heights-spec =

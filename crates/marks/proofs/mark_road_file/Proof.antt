@@ -1,17 +1,9 @@
--- `mark_road_file` meets its contract: reading's verdict decides, then the room, and the list's definition follows the
--- answer.
-use mathlib.Core.Path.{_≡_, refl, sym, _∙_}
-use mathlib.Core.List.{List}
-use Prim.Native.Nat.{ℕ, _+_, _≤_, _<_}
+-- `mark_road_file` meets its contract: each return is one of the three ways in which such an operation ends.
+use mathlib.Core.Path.{_≡_, sym, _∙_}
 use native.Mathlib.Omega.{arith}
 use borrow.Author.Needs.{needs}
-use borrow.Author.Tests.{lt-ltb, le-ltb}
-use lib.ListN.{length}
-use Rattle.whole.specs.Fill.{filled}
-use Rattle.terms.specs.Refusals.{roomRefused}
-use Rattle.terms.specs.declared.Answer.the-variants.{Number, Refused}
-use Rattle.terms.specs.declared.Verdict.the-variants.{Accepted, Fault}
-use Rattle.road.specs.declared.Road.{Road}
+use Rattle.terms.specs.declared.Verdict.the-variants.{Accepted}
+use Rattle.terms.proofs.Laws.{ends-fault, ends-no-room, ends-filled}
 use Rattle.road.specs.Road.{roadVerdict}
 use Rattle.road.proofs.Accepted.{accepted-road}
 use Rattle.file.specs.File.{roadIn}
@@ -21,25 +13,6 @@ use Rattle.marks.specs.Marks.{markFor}
 use Rattle.marks.specs.RoadFile.{ownHeights, markFileAnswer, markFileList}
 use Rattle.marks.proofs.mark_road_file.Statement.{statement}
 use Rattle.marks.proofs.mark_road_file.Tie as tie
-
--- ---- the three ways it answers
-module _ (file marks : List ℕ) where
-  refused : {k : ℕ} → readVerdict file ≡ Fault k →
-      (Refused k ≡ markFileAnswer file marks) × (marks ≡ markFileList file marks)
-  unfolding markFileAnswer markFileList
-  refused e = rw e (refl, refl)
-
-  module _ (r : Road) (accepted : readVerdict file ≡ Accepted) (read : r ≡ roadIn file) where
-    no-room : length marks < r .length + 1 →
-        (Refused roomRefused ≡ markFileAnswer file marks) × (marks ≡ markFileList file marks)
-    unfolding markFileAnswer markFileList
-    no-room l = rw (accepted, ← read, lt-ltb (length marks) (r .length + 1) l) (refl, refl)
-
-    marked : (out : List ℕ) → r .length + 1 ≤ length marks →
-        out ≡ filled (markFor (r .speed) (r .purpose) (ownHeights r)) 0 (r .length + 1) marks →
-        (Number (r .length + 1) ≡ markFileAnswer file marks) × (out ≡ markFileList file marks)
-    unfolding markFileAnswer markFileList
-    marked out l f = rw (accepted, ← read, le-ltb (length marks) (r .length + 1) l) (refl, f)
 
 -- ---- what was read
 accepted : (c : tie.After-enum-told) →
@@ -60,7 +33,8 @@ enum-known-verdict : tie.Need-enum-known-verdict
 enum-known-verdict c = search needs
 
 returns : tie.Need-returns
-returns c = refused _ _ (sym (verdict-read _ _ (c .before .before .before .read .ensures)) ∙ c .before .verdict .given .1)
+unfolding markFileAnswer markFileList
+returns c = ends-fault (markFor _ _ (ownHeights _)) _ _ _ (sym (verdict-read _ _ (c .before .before .before .read .ensures)) ∙ c .before .verdict .given .1)
 
 enum-told : tie.Need-enum-told
 enum-told c = search needs
@@ -72,7 +46,10 @@ cast-if1 : tie.Need-cast-if1
 cast-if1 c = search needs
 
 returns-2 : tie.Need-returns-2
-returns-2 c = let t = c .before .before .before in no-room _ _ _ (accepted t) (road-is t) (c .if1 .taken)
+unfolding markFileAnswer markFileList
+returns-2 c =
+    let t = c .before .before .before in
+    ends-no-room (markFor _ _ (ownHeights _)) _ _ _ (accepted t) (rw (road-is t) at (c .if1 .taken))
 
 mark-road-requires : tie.Need-mark-road-requires
 mark-road-requires c κs = (road-accepted (c .before .before .before .before), search needs)
@@ -81,9 +58,10 @@ same-length : tie.Need-same-length
 same-length c = search needs
 
 returns-3 : tie.Need-returns-3
+unfolding markFileAnswer markFileList
 returns-3 c =
     let b = c .before .before .before .before in let t = b .before .before .before in
-    marked _ _ _ (accepted t) (road-is t) _ (b .if1 .left) (c .before .before .mark-road .ensures)
+    rw (← road-is t) (ends-filled _ _ _ _ _ (accepted t) (b .if1 .left) (c .before .before .mark-road .ensures))
 
 pub mark-road-file-spec : {M : Type 1} → statement M
 mark-road-file-spec =

@@ -1,12 +1,14 @@
--- `write` meets its contract: each `return` rewrites the answer by the verdict and the test that led to it, and `put_file` fills
--- the buffer.
-use mathlib.Core.Path.{_≡_, refl, sym, _∙_}
-use borrow.Author.Tests.{lt-ltb, le-ltb}
+-- `write` meets its contract: each `return` is one of the three ways in which such an operation ends, and `put_file` fills the
+-- buffer.
+use mathlib.Core.Path.{_≡_, sym, _∙_}
 use borrow.Author.Needs.{needs}
 use native.Mathlib.Omega.{arith}
 use Rattle.terms.specs.declared.Verdict.the-variants.{Accepted}
+use Rattle.terms.proofs.Laws.{ends-fault, ends-no-room, ends-filled}
 use Rattle.road.proofs.Accepted.{accepted-road}
 use Rattle.road.specs.Road.{roadVerdict}
+use Rattle.file.specs.File.{byteAt}
+use Rattle.writing.specs.Bytes.{fileBytes}
 use Rattle.writing.specs.Writing.{writeAnswer, writeList}
 use Rattle.writing.proofs.write.Statement.{statement}
 use Rattle.writing.proofs.write.Tie as tie
@@ -31,7 +33,7 @@ returns : tie.Need-returns
 unfolding writeAnswer writeList
 returns c =
     let short = rw (c .before .file-length .ensures) at (c .if1 .taken) in
-    simp (accepted (c .before .before), lt-ltb _ _ short) (refl, refl)
+    ends-no-room (byteAt (fileBytes _)) _ _ _ (accepted (c .before .before)) short
 
 put-file-requires : tie.Need-put-file-requires
 put-file-requires c κs = (accepted-road _ (accepted (c .before .before .before)) .count, omega (arith, c .before .before .file-length .ensures))
@@ -42,8 +44,7 @@ cast-t12 c = search needs
 returns-2 : tie.Need-returns-2
 unfolding writeAnswer writeList
 returns-2 c =
-    let fault = sym (c .before .before .before .verdict .ensures) ∙ c .before .verdict2 .given .1 in
-    simp fault (refl, refl)
+    ends-fault (byteAt (fileBytes _)) _ _ _ (sym (c .before .before .before .verdict .ensures) ∙ c .before .verdict2 .given .1)
 
 same-length : tie.Need-same-length
 same-length c = search needs
@@ -52,8 +53,8 @@ returns-3 : tie.Need-returns-3
 unfolding writeAnswer writeList
 returns-3 c =
     let passed = c .before .before .before .before in
-    let room = rw (passed .before .file-length .ensures) at (passed .if1 .left) in
-    simp (accepted (passed .before .before), le-ltb _ _ room, passed .before .file-length .ensures) (refl, c .before .before .put-file .ensures)
+    let n = passed .before .file-length .ensures in
+    rw n (ends-filled _ _ _ _ _ (accepted (passed .before .before)) (rw n at (passed .if1 .left)) (c .before .before .put-file .ensures))
 
 pub write-spec : {M : Type 1} → statement M
 write-spec =
