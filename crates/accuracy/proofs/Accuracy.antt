@@ -23,7 +23,7 @@ use Rattle.road.proofs.Accepted.{accepted-road}
 use Rattle.heights.specs.Profile.{exactHeight, storedHeight}
 use Rattle.heights.specs.Heights.{heightsList}
 use Rattle.heights.proofs.Profile.{stored-floor}
-use Rattle.heights.proofs.HeightsAnswer.{heights-number, heights-filled, heights-length}
+use Rattle.heights.proofs.Filled.{heights-number, heights-filled, heights-length}
 use Rattle.sight.specs.Sight.{at, clears, seen, availableSight}
 use Rattle.sight.specs.Operations.{sightAnswer, profileAnswer, profileList}
 use Rattle.sight.proofs.Reach.{sight-mono}

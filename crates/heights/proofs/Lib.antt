@@ -1,4 +1,4 @@
 pub mod Along
-pub mod HeightsAnswer
+pub mod Filled
 pub mod Profile
 pub mod Walked

@@ -4,19 +4,17 @@ use mathlib.Core.Path.{_≡_, refl, sym, ap, _∙_}
 use mathlib.Core.List.{List}
 use borrow.Author.Tests.{le-ltb}
 use native.Mathlib.Omega.{arith}
-use lib.ListN.{length, take, getD, replicate, length-replicate}
-use lib.Seq.{length-take-le}
+use lib.ListN.{length, take, getD}
 use Rattle.whole.specs.Fill.{filled}
-use Rattle.whole.proofs.Fill.{filled-length, filled-at, filled-take, filled-whole}
+use Rattle.whole.proofs.Fill.{filled-length, filled-at}
 use Rattle.terms.specs.Limits.{lastBit, greatestList}
 use Rattle.terms.specs.declared.Answer.{Answer}
 use Rattle.terms.specs.declared.Answer.the-variants.{Number, Refused}
 use Rattle.terms.specs.declared.Verdict.the-variants.{Accepted}
-use Rattle.terms.proofs.Laws.{room-number}
+use Rattle.terms.proofs.Laws.{ends-front}
 use Rattle.file.specs.File.{roadIn}
 use Rattle.file.specs.Reading.{readVerdict}
-use Rattle.marks.specs.Marks.{markFor}
-use Rattle.marks.specs.RoadFile.{ownHeights, markFileAnswer, markFileList}
+use Rattle.marks.specs.RoadFile.{markFileAnswer, markFileList}
 use Rattle.zones.specs.Zones.{zoneEnds, zoneCount, zonesAnswer, zonesList}
 use Rattle.zones.proofs.Laws.{zones-at-most}
 use Rattle.listing.specs.Listing.{zoneLines, bitLetters, bitLines, ownMarks}
@@ -63,23 +61,8 @@ module _ (marks list : List ℕ) (b : ℕ) (bit : b ≤ lastBit) (some : 0 < len
       )
 
 -- ---- marks
-module _ (file : List ℕ) (accepted : readVerdict file ≡ Accepted) where
-  abbrev markAt : ℕ → ℕ
-  markAt = let r = roadIn file in markFor (r .speed) (r .purpose) (ownHeights r)
-
-  marks-filled : (list : List ℕ) → roadIn file .length + 1 ≤ length list →
-      markFileList file list ≡ filled markAt 0 (roadIn file .length + 1) list
-  unfolding markFileList markFileAnswer
-  marks-filled list l = rw (room-number _ _ list accepted l)
-
-  -- the first N + 1 places of a list with room for them
-  pub own-marks-front : (list : List ℕ) → roadIn file .length + 1 ≤ length list →
-      take (roadIn file .length + 1) (markFileList file list) ≡ ownMarks file
-  unfolding ownMarks
-  own-marks-front list l =
-      let n = roadIn file .length + 1 in
-      let none : List ℕ = replicate n 0 in
-      let own : length none ≡ n = length-replicate {A = ℕ} n 0 in
-      rw (marks-filled list l, marks-filled none (omega arith))
-      (filled-take markAt 0 n n list (omega arith)
-      ∙ filled-whole markAt n (take n list) none (length-take-le n list l) own)
+-- the first N + 1 places of a list with room for them
+pub own-marks-front : (file list : List ℕ) → readVerdict file ≡ Accepted → roadIn file .length + 1 ≤ length list →
+    take (roadIn file .length + 1) (markFileList file list) ≡ ownMarks file
+unfolding ownMarks markFileList markFileAnswer
+own-marks-front file list e l = ends-front _ _ _ list 0 e l

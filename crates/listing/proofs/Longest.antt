@@ -15,11 +15,12 @@ use Rattle.terms.specs.declared.Verdict.{Verdict}
 use Rattle.terms.specs.declared.Verdict.the-variants.{Accepted, Fault}
 use Rattle.terms.proofs.Laws.{written-length}
 use Rattle.road.proofs.Accepted.{accepted-road}
+use Rattle.heights.specs.Heights.{ownHeights}
 use Rattle.file.specs.File.{roadIn, version}
 use Rattle.file.specs.Reading.{readVerdict}
 use Rattle.file.proofs.Sound.{accepted-file}
 use Rattle.marks.specs.Marks.{stoppingDistance, decisionDistance, markFor}
-use Rattle.marks.specs.RoadFile.{ownHeights, markFileAnswer, markFileList}
+use Rattle.marks.specs.RoadFile.{markFileAnswer, markFileList}
 use Rattle.zones.specs.Zones.{zoneEnds, zoneCount}
 use Rattle.zones.proofs.Laws.{zones-at-most}
 use Rattle.listing.specs.Listing.{digit, decimal, space, lineFeed, item, refusedLine, firstLine, zoneLine, bitLetters, bitLines, zonesText, ownMarks, linesFor, textFor, listing, listAnswer}

@@ -1,3 +1,3 @@
 pub mod FileAnswer
 pub mod Mark
-pub mod OwnHeights
+pub mod OwnMarks

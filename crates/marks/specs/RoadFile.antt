@@ -1,20 +1,12 @@
 -- Document 01, "Marks and zones": marking a road file.
 use Prim.Native.Nat.{ℕ, _+_}
 use mathlib.Core.List.{List}
-use lib.IntN.{ℤ, pos}
-use lib.ListN.{replicate}
-use Rattle.whole.specs.Fill.{filled}
 use Rattle.terms.specs.Answers.{unless, roomFor, written}
 use Rattle.terms.specs.declared.Answer.{Answer}
-use Rattle.road.specs.declared.Road.{Road}
-use Rattle.heights.specs.Profile.{storedHeight}
+use Rattle.heights.specs.Heights.{ownHeights}
 use Rattle.file.specs.File.{roadIn}
 use Rattle.file.specs.Reading.{readVerdict}
 use Rattle.marks.specs.Marks.{markFor}
-
--- a road's own heights: a list of just the N + 1 stored ones
-unfoldable pub ownHeights : Road → List ℤ
-ownHeights r = filled (storedHeight r) 0 (r .length + 1) (replicate (r .length + 1) (pos 0))
 
 -- refused as reading is, then 14; else the number of stations, N + 1
 unfoldable pub markFileAnswer : List ℕ → List ℕ → Answer

@@ -2,17 +2,18 @@
 use Prim.Native.Nat.{ℕ, zero, suc, _≤_, _<_}
 use mathlib.Core.Bool.{Bool, true, false, not, _||_}
 use mathlib.Core.List.{List}
-use mathlib.Core.Path.{_≡_, refl, sym, subst}
+use mathlib.Core.Path.{_≡_, refl, sym, subst, _∙_}
 use native.Mathlib.Omega.{arith}
 use mir.Syntax.{w32}
 use mir.Val.{SFits}
 use borrow.Author.Tests.{lt-ltb, le-ltb}
 use lib.Dec.{T, ltb, nltb→le}
 use lib.IntN.{ℤ}
-use lib.ListN.{length}
+use lib.ListN.{length, take, replicate, length-replicate}
+use lib.Seq.{length-take-le}
 use lib.Signed.{_≤ℤ_, ltZ, ltZ-yes, ltZ-no, clashℤ}
 use Rattle.whole.specs.Fill.{filled}
-use Rattle.whole.proofs.Fill.{filled-length}
+use Rattle.whole.proofs.Fill.{filled-length, filled-take, filled-whole}
 use Rattle.terms.specs.Answers.{outside, outsideℤ, heightsOutside, refuse, roomFor, written, fault, unless, valueOrZero, signed}
 use Rattle.terms.specs.Limits.{greatestHeight}
 use Rattle.terms.specs.Refusals.{roomRefused}
@@ -72,6 +73,14 @@ module _ {A : Type 0} (f : ℕ → A) (v : Verdict) (n : ℕ) (xs : List A) wher
 
   pub ends-filled : (out : List A) → v ≡ Accepted → n ≤ length xs → out ≡ filled f 0 n xs → Ends (Number n) out
   ends-filled out e l p = written-number f _ xs n out (room-number v n xs e l) p
+
+  -- what is written is what a list of just n places holds then
+  pub ends-front : (z : A) → v ≡ Accepted → n ≤ length xs → let just = replicate n z in
+      take n (written f (unless v (roomFor n xs)) xs) ≡ written f (unless v (roomFor n just)) just
+  ends-front z e l =
+      let size : length (replicate n z) ≡ n = length-replicate n z in
+      rw (room-number v n xs e l, room-number v n (replicate n z) e (omega arith))
+      (filled-take f 0 n n xs (omega arith) ∙ filled-whole f n (take n xs) (replicate n z) (length-take-le n xs l) size)
 
 -- ---- verdicts
 -- a fault is no acceptance

@@ -66,7 +66,7 @@ own c =
     let t = c .before .before .before in
     let n = ap (λ (r : Road). r .length + 1) (road-is t) in
     let places = length-replicate {A = ℕ} greatestList 0 in
-    rw (n, c .mark-road-file .ensures .1) (own-marks-front _ (accepted t) _ (omega (arith, sound t .length-high)))
+    rw (n, c .mark-road-file .ensures .1) (own-marks-front _ _ (accepted t) (omega (arith, sound t .length-high)))
 
 lines : (c : tie.After-mark-road-file) →
     let r = c .before .before .before .before .before .read .result .road in

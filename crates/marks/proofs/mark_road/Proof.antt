@@ -9,9 +9,10 @@ use lib.IntN.{ℤ}
 use lib.ListN.{length, take}
 use lib.Seq.{length-take-le}
 use Rattle.road.proofs.Accepted.{accepted-road}
+use Rattle.heights.specs.Heights.{ownHeights}
+use Rattle.heights.proofs.Filled.{own-front}
 use Rattle.marks.specs.Marks.{marksList}
-use Rattle.marks.specs.RoadFile.{ownHeights}
-use Rattle.marks.proofs.OwnHeights.{own-front, own-marks}
+use Rattle.marks.proofs.OwnMarks.{own-marks}
 use Rattle.marks.proofs.mark_road.Statement.{statement}
 use Rattle.marks.proofs.mark_road.Tie as tie
 
@@ -55,7 +56,7 @@ front : (c : tie.After-heights2) → let r = c .before .before .before .args .ro
 front c =
     let s = c .before .before .before in
     ap (take (s .args .road .length + 1)) (c .heights2 .ensures .1)
-    ∙ own-front _ (s .pre .0) _ (omega (arith, accepted-road _ (s .pre .0) .length-high))
+    ∙ own-front _ _ (s .pre .0) (omega (arith, accepted-road _ (s .pre .0) .length-high))
 
 returns : tie.Need-returns
 returns c =

@@ -6,11 +6,12 @@ use Rattle.terms.specs.declared.Verdict.the-variants.{Accepted}
 use Rattle.terms.proofs.Laws.{ends-fault, ends-no-room, ends-filled}
 use Rattle.road.specs.Road.{roadVerdict}
 use Rattle.road.proofs.Accepted.{accepted-road}
+use Rattle.heights.specs.Heights.{ownHeights}
 use Rattle.file.specs.File.{roadIn}
 use Rattle.file.specs.Reading.{readVerdict}
 use Rattle.file.proofs.Sound.{accepted-file, verdict-read, road-read}
 use Rattle.marks.specs.Marks.{markFor}
-use Rattle.marks.specs.RoadFile.{ownHeights, markFileAnswer, markFileList}
+use Rattle.marks.specs.RoadFile.{markFileAnswer, markFileList}
 use Rattle.marks.proofs.mark_road_file.Statement.{statement}
 use Rattle.marks.proofs.mark_road_file.Tie as tie
 
