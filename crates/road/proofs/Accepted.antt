@@ -12,7 +12,7 @@ use Rattle.terms.specs.Answers.{outside, outsideℤ}
 use Rattle.terms.specs.Limits.{leastSpeed, greatestSpeed, firstDecision, lastPurpose, greatestRoad, lowestStart, highestStart, greatestGrade, greatestCurveCount, greatestCurve}
 use Rattle.terms.specs.Refusals.{curveCountRefused, speedRefused, purposeRefused, roadLengthRefused, startRefused, gradeRefused, curveLengthRefused, curvePlaceRefused, curveOrderRefused}
 use Rattle.terms.specs.declared.Verdict.the-variants.{Accepted}
-use Rattle.terms.proofs.Laws.{fault-accepted, neither, inside, inside-ℤ, le-ltZ}
+use Rattle.terms.proofs.Laws.{fault-accepted, first-fault-accepted, neither, inside, inside-ℤ, le-ltZ}
 use Rattle.road.specs.declared.Curve.{Curve}
 use Rattle.road.specs.declared.Road.{Road}
 use Rattle.road.specs.Road.{half, begin, end, curvesOf, gradeOutside, lengthOutside, placeOutside, curveVerdict, curvesVerdict, roadVerdict}
@@ -39,7 +39,8 @@ pub accepted-curve : (n last : ℕ) (c : Curve) (cs : List Curve) → curvesVerd
     SoundCurve n last c × (curvesVerdict n (end c) cs ≡ Accepted)
 unfolding curvesVerdict curveVerdict
 accepted-curve n last c cs e =
-    let grade = fault-accepted (gradeOutside (c .«grade_out»)) gradeRefused _ e in
+    let both = first-fault-accepted (curveVerdict n last c) _ e in
+    let grade = fault-accepted (gradeOutside (c .«grade_out»)) gradeRefused _ (both .0) in
     let size = fault-accepted (lengthOutside c) curveLengthRefused _ (grade .1) in
     let place = fault-accepted (placeOutside n c) curvePlaceRefused _ (size .1) in
     let order = fault-accepted (ltb (begin c) last) curveOrderRefused _ (place .1) in
@@ -55,7 +56,7 @@ accepted-curve n last c cs e =
         before-end = nltb→le n (end c) (p .1);
         ordered = nltb→le (begin c) last (order .0);
       },
-      order .1,
+      both .1,
     )
 
 pub sound-curve : (n last : ℕ) (c : Curve) (cs : List Curve) → SoundCurve n last c → curvesVerdict n (end c) cs ≡ Accepted →

@@ -1,70 +1,48 @@
 -- Verdicts of curves in turn: the first fault among them decides.
 use Prim.Native.Nat.{ℕ, _+_, _≤_, _<_}
-use mathlib.Core.Bool.{Bool, true, false}
 use mathlib.Core.List.{List, [], _∷_}
-use mathlib.Core.Path.{_≡_, refl}
+use mathlib.Core.Path.{_≡_}
 use native.Mathlib.Numerals.{add-one}
 use native.Mathlib.Omega.{arith}
 use lib.Dec.{ltb}
 use lib.ListN.{length, take, drop, getD}
 use lib.Seq.{drop-cons, drop-length, getD-take, length-take-le}
-use Rattle.terms.specs.Answers.{outside, outsideℤ, fault, firstFault}
+use Rattle.terms.specs.Answers.{outside, outsideℤ, firstFault}
 use Rattle.terms.specs.Limits.{leastSpeed, greatestSpeed, firstDecision, lastPurpose, greatestRoad, lowestStart, highestStart, greatestCurveCount}
-use Rattle.terms.proofs.Laws.{ByteFault, fault-byte}
-use Rattle.terms.specs.Refusals.{gradeRefused, curveLengthRefused, curvePlaceRefused, curveOrderRefused}
-use Rattle.terms.specs.declared.Verdict.{Verdict}
+use Rattle.terms.proofs.Laws.{ByteFault, fault-byte, first-fault-byte}
 use Rattle.terms.specs.declared.Verdict.the-variants.{Accepted}
 use Rattle.road.specs.declared.Curve.{Curve}
 use Rattle.road.specs.declared.Road.{Road}
 use Rattle.road.specs.Road.{begin, end, gradeOutside, lengthOutside, placeOutside, curvesOf, curveVerdict, curvesVerdict, roadVerdict}
 
--- ---- one curve
--- the four tests in turn
-abbrev faults : Bool → Bool → Bool → Bool → Verdict → Verdict
-faults grade size place order rest =
-    fault grade gradeRefused (fault size curveLengthRefused (fault place curvePlaceRefused (fault order curveOrderRefused rest)))
-
-faults-rest : (grade size place order : Bool) (rest : Verdict) →
-    faults grade size place order rest ≡ firstFault (faults grade size place order Accepted) rest
-faults-rest true size place order rest = refl
-faults-rest false true place order rest = refl
-faults-rest false false true order rest = refl
-faults-rest false false false true rest = refl
-faults-rest false false false false rest = refl
-
--- a curve's own fault; else as the rest says
-pub curve-verdict-rest : (n last : ℕ) (c : Curve) (rest : Verdict) → curveVerdict n last c rest ≡ firstFault (curveVerdict n last c Accepted) rest
-unfolding curveVerdict
-curve-verdict-rest n last c rest =
-    faults-rest (gradeOutside (c .«grade_out»)) (lengthOutside c) (placeOutside n c) (ltb (begin c) last) rest
-
 -- ---- the curves from a place on
 -- of the first `count` curves, from place i on: the fault of the curve there; else as the curves after it say
 module _ (n last : ℕ) (cs : List Curve) (count : ℕ) (holds : count ≤ length cs) where
   pub curves-verdict-step : (i : ℕ) (d : Curve) → i < count →
-      curvesVerdict n last (drop i (take count cs)) ≡ firstFault (curveVerdict n last (getD cs i d) Accepted) (curvesVerdict n (end (getD cs i d)) (drop (i + 1) (take count cs)))
+      curvesVerdict n last (drop i (take count cs)) ≡ firstFault (curveVerdict n last (getD cs i d)) (curvesVerdict n (end (getD cs i d)) (drop (i + 1) (take count cs)))
   unfolding curvesVerdict
   curves-verdict-step i d h =
       let k : i < length (take count cs) = rw (length-take-le count cs) h in
-      rw (add-one, drop-cons (take count cs) i d, getD-take count cs i d) (curve-verdict-rest n last (getD cs i d) _)
+      rw (add-one, drop-cons (take count cs) i d, getD-take count cs i d)
 
   pub curves-verdict-end : curvesVerdict n last (drop count (take count cs)) ≡ Accepted
   unfolding curvesVerdict
   curves-verdict-end = rw (rw (length-take-le count cs holds) at (drop-length (take count cs)))
 
 -- ---- every fault's number is a byte
-curve-verdict-byte : (n last : ℕ) (c : Curve) (rest : Verdict) → ByteFault rest → ByteFault (curveVerdict n last c rest)
+curve-verdict-byte : (n last : ℕ) (c : Curve) → ByteFault (curveVerdict n last c)
 unfolding curveVerdict
-curve-verdict-byte n last c rest h =
+curve-verdict-byte n last c =
     fault-byte (gradeOutside (c .«grade_out»)) _ _ (omega arith)
     (fault-byte (lengthOutside c) _ _ (omega arith)
     (fault-byte (placeOutside n c) _ _ (omega arith)
-    (fault-byte (ltb (begin c) last) _ _ (omega arith) h)))
+    (fault-byte (ltb (begin c) last) _ _ (omega arith) tt)))
 
 curves-verdict-byte : (n last : ℕ) (cs : List Curve) → ByteFault (curvesVerdict n last cs)
 unfolding curvesVerdict
 curves-verdict-byte n last [] = tt
-curves-verdict-byte n last (c ∷ cs) = curve-verdict-byte n last c _ (curves-verdict-byte n (end c) cs)
+curves-verdict-byte n last (c ∷ cs) =
+    first-fault-byte (curveVerdict n last c) (curvesVerdict n (end c) cs) (curve-verdict-byte n last c) (curves-verdict-byte n (end c) cs)
 
 pub road-verdict-byte : (r : Road) → ByteFault (roadVerdict r)
 unfolding roadVerdict

@@ -6,7 +6,7 @@ use mathlib.Core.List.{List, [], _∷_}
 use lib.Dec.{ltb, eqb}
 use lib.IntN.{ℤ, pos, negℤ}
 use lib.ListN.{take}
-use Rattle.terms.specs.Answers.{outside, outsideℤ, fault}
+use Rattle.terms.specs.Answers.{outside, outsideℤ, fault, firstFault}
 use Rattle.terms.specs.Limits.{leastSpeed, greatestSpeed, firstDecision, lastPurpose, greatestRoad, lowestStart, highestStart, greatestGrade, greatestCurveCount, greatestCurve}
 use Rattle.terms.specs.Refusals.{curveCountRefused, speedRefused, purposeRefused, roadLengthRefused, startRefused, gradeRefused, curveLengthRefused, curvePlaceRefused, curveOrderRefused}
 use Rattle.terms.specs.declared.Verdict.{Verdict}
@@ -44,19 +44,18 @@ lengthOutside c = not (eqb (c .length % 2) 0) || ltb greatestCurve (c .length)
 abbrev pub placeOutside : ℕ → Curve → Bool
 placeOutside n c = ltb (c .pvi) (half c) || ltb n (end c)
 
--- the faults of one curve of a road of length n, the curve listed just before it ending at last: 10, 11, 12, 13, else as the
--- rest says
-unfoldable pub curveVerdict : ℕ → ℕ → Curve → Verdict → Verdict
-curveVerdict n last c rest =
+-- one curve of a road of length n, the curve listed just before it ending at last: 10, 11, 12, 13
+unfoldable pub curveVerdict : ℕ → ℕ → Curve → Verdict
+curveVerdict n last c =
     fault (gradeOutside (c .«grade_out»)) gradeRefused
     (fault (lengthOutside c) curveLengthRefused
     (fault (placeOutside n c) curvePlaceRefused
-    (fault (ltb (begin c) last) curveOrderRefused rest)))
+    (fault (ltb (begin c) last) curveOrderRefused Accepted)))
 
--- the curves in turn, each with the end of the one listed just before it
+-- the curves in turn, each with the end of the one listed just before it; the lowest with a fault decides
 unfoldable pub curvesVerdict : ℕ → ℕ → List Curve → Verdict
 curvesVerdict n last [] = Accepted
-curvesVerdict n last (c ∷ cs) = curveVerdict n last c (curvesVerdict n (end c) cs)
+curvesVerdict n last (c ∷ cs) = firstFault (curveVerdict n last c) (curvesVerdict n (end c) cs)
 
 -- 4, 6, 7, 8, 9, 10, then the curves; the first has no curve before it, so last is station 0
 unfoldable pub roadVerdict : Road → Verdict

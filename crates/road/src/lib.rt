@@ -79,7 +79,7 @@ fn end_of(c: Curve) -> u64
 
 // Refusals 10 to 13 of one curve of a road of length `n`, the curve listed just before it ending at `last`.
 fn curve_verdict(c: Curve, n: u32, last: u64) -> Verdict
-    ensures { λ r. ⌜ r ≡ curveVerdict n last c Verdict.Accepted ⌝ }
+    ensures { λ r. ⌜ r ≡ curveVerdict n last c ⌝ }
 {
     let grade = c.grade_out;
     if grade_outside(grade) {

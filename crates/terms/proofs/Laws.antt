@@ -14,7 +14,7 @@ use lib.Seq.{length-take-le}
 use lib.Signed.{_≤ℤ_, ltZ, ltZ-yes, ltZ-no, clashℤ}
 use Rattle.whole.specs.Fill.{filled}
 use Rattle.whole.proofs.Fill.{filled-length, filled-take, filled-whole}
-use Rattle.terms.specs.Answers.{outside, outsideℤ, heightsOutside, refuse, roomFor, written, fault, unless, valueOrZero, signed}
+use Rattle.terms.specs.Answers.{outside, outsideℤ, heightsOutside, refuse, roomFor, written, fault, firstFault, unless, valueOrZero, signed}
 use Rattle.terms.specs.Limits.{greatestHeight}
 use Rattle.terms.specs.Refusals.{roomRefused}
 use Rattle.terms.specs.declared.Answer.{Answer}
@@ -96,6 +96,10 @@ pub fault-byte : (test : Bool) (number : ℕ) (rest : Verdict) → number < 256 
 fault-byte true number rest l h = l
 fault-byte false number rest l h = h
 
+pub first-fault-byte : (v rest : Verdict) → ByteFault v → ByteFault rest → ByteFault (firstFault v rest)
+first-fault-byte Accepted rest l h = h
+first-fault-byte (Fault k) rest l h = l
+
 pub unless-at-most :
     (v : Verdict) (m : ℕ) (rest : Answer) → ByteFault v → (v ≡ Accepted → AtMost m rest) → AtMost m (unless v rest)
 unless-at-most Accepted m rest b h = h refl
@@ -105,6 +109,11 @@ unless-at-most (Fault k) m rest b h = b
 pub fault-accepted : (test : Bool) (number : ℕ) (rest : Verdict) → fault test number rest ≡ Accepted → T (not test) × (rest ≡ Accepted)
 fault-accepted true number rest e = absurd (fault-not-accepted number e)
 fault-accepted false number rest e = (tt, e)
+
+-- neither of two verdicts is a fault
+pub first-fault-accepted : (v rest : Verdict) → firstFault v rest ≡ Accepted → (v ≡ Accepted) × (rest ≡ Accepted)
+first-fault-accepted Accepted rest e = (refl, e)
+first-fault-accepted (Fault k) rest e = absurd (fault-not-accepted k e)
 
 -- ---- ranges
 -- two tests neither of which holds
