@@ -1,16 +1,17 @@
 -- What acceptance of a file says: its header is sound and its road accepted; and the other way round.
 use mathlib.Core.Path.{_≡_, refl, ap, _∙_}
-use mathlib.Core.Bool.{Bool, true, false, not, _||_}
+use mathlib.Core.Bool.{not, _||_}
 use mathlib.Core.List.{List}
 use Prim.Native.Nat.{ℕ, _≤_}
 use native.Mathlib.Omega.{arith}
 use borrow.Author.Tests.{le-ltb, eq-eqb}
-use lib.Dec.{T, ltb, eqb, eqb→eq, nltb→le}
+use mir.Facts.{or-no}
+use lib.Dec.{ltb, eqb, nltb→le}
 use lib.ListN.{length, getD}
 use Rattle.terms.specs.Limits.{greatestCurveCount}
 use Rattle.terms.specs.Refusals.{shortFileRefused, lettersRefused, versionRefused, curveCountRefused, totalRefused}
 use Rattle.terms.specs.declared.Verdict.the-variants.{Accepted, Fault}
-use Rattle.terms.proofs.Laws.{ByteFault, fault-accepted, fault-byte, neither}
+use Rattle.terms.proofs.Laws.{ByteFault, fault-accepted, fault-byte, no-difference}
 use Rattle.road.specs.Road.{roadVerdict}
 use Rattle.road.proofs.Faults.{road-verdict-byte}
 use Rattle.file.specs.declared.ReadRoad.{ReadRoad}
@@ -27,13 +28,6 @@ pub record SoundFile (s : List ℕ) : Type 0 where
   pub total : length s ≡ fileLength (curveCount s)
   pub road : roadVerdict (roadIn s) ≡ Accepted
 
-same-if : (m n : ℕ) → T (not (not (eqb m n))) → m ≡ n
-same-if m n t = eqb→eq m n (go (eqb m n) t)
-  where
-    go : (b : Bool) → T (not (not b)) → T b
-    go true t = t
-    go false t = t
-
 pub accepted-file : (s : List ℕ) → readVerdict s ≡ Accepted → SoundFile s
 unfolding readVerdict
 accepted-file s e =
@@ -42,15 +36,15 @@ accepted-file s e =
     let versions = fault-accepted (not (eqb (u16At s 3) version)) versionRefused _ (spelled .1) in
     let count = fault-accepted (ltb greatestCurveCount (curveCount s)) curveCountRefused _ (versions .1) in
     let total = fault-accepted (not (eqb (length s) (fileLength (curveCount s)))) totalRefused _ (count .1) in
-    let p = neither (differs s 0 || differs s 1) (differs s 2) (spelled .0) in
-    let v = neither (differs s 0) (differs s 1) (p .0) in
+    let p = or-no (differs s 0 || differs s 1) (differs s 2) (spelled .0) in
+    let v = or-no (differs s 0) (differs s 1) (p .0) in
     record {
-      letter-V = same-if (byteAt s 0) (getD letters 0 0) (v .0);
-      letter-C = same-if (byteAt s 1) (getD letters 1 0) (v .1);
-      letter-P = same-if (byteAt s 2) (getD letters 2 0) (p .1);
-      first-version = same-if (u16At s 3) version (versions .0);
+      letter-V = no-difference (byteAt s 0) (getD letters 0 0) (v .0);
+      letter-C = no-difference (byteAt s 1) (getD letters 1 0) (v .1);
+      letter-P = no-difference (byteAt s 2) (getD letters 2 0) (p .1);
+      first-version = no-difference (u16At s 3) version (versions .0);
       count = nltb→le greatestCurveCount (curveCount s) (count .0);
-      total = same-if (length s) (fileLength (curveCount s)) (total .0);
+      total = no-difference (length s) (fileLength (curveCount s)) (total .0);
       road = total .1;
     }
 

@@ -1,18 +1,19 @@
 -- What acceptance says: every number of an accepted road is in its range, and every curve in use is sound and begins no earlier
 -- than the one listed just before it ends. Sound curves are accepted.
 use Prim.Native.Nat.{ℕ, _≤_, _%_}
-use mathlib.Core.Bool.{Bool, true, false, not}
+use mathlib.Core.Bool.{not}
 use mathlib.Core.List.{List, _∷_}
 use mathlib.Core.Path.{_≡_}
 use borrow.Author.Tests.{le-ltb}
-use lib.Dec.{T, ltb, eqb, eqb→eq, nltb→le}
+use mir.Facts.{or-no}
+use lib.Dec.{ltb, eqb, nltb→le}
 use lib.IntN.{pos, negℤ}
 use lib.Signed.{_≤ℤ_}
 use Rattle.terms.specs.Answers.{outside, outsideℤ}
 use Rattle.terms.specs.Limits.{leastSpeed, greatestSpeed, firstDecision, lastPurpose, greatestRoad, lowestStart, highestStart, greatestGrade, greatestCurveCount, greatestCurve}
 use Rattle.terms.specs.Refusals.{curveCountRefused, speedRefused, purposeRefused, roadLengthRefused, startRefused, gradeRefused, curveLengthRefused, curvePlaceRefused, curveOrderRefused}
 use Rattle.terms.specs.declared.Verdict.the-variants.{Accepted}
-use Rattle.terms.proofs.Laws.{fault-accepted, first-fault-accepted, neither, inside, inside-ℤ, le-ltZ}
+use Rattle.terms.proofs.Laws.{fault-accepted, first-fault-accepted, no-difference, inside, inside-ℤ, le-ltZ}
 use Rattle.road.specs.declared.Curve.{Curve}
 use Rattle.road.specs.declared.Road.{Road}
 use Rattle.road.specs.Road.{half, begin, end, curvesOf, gradeOutside, lengthOutside, placeOutside, curveVerdict, curvesVerdict, roadVerdict}
@@ -28,13 +29,6 @@ pub record SoundCurve (n last : ℕ) (c : Curve) : Type 0 where
   pub before-end : end c ≤ n
   pub ordered : last ≤ begin c
 
-not-odd : (m : ℕ) → T (not (not (eqb m 0))) → m ≡ 0
-not-odd m t = eqb→eq m 0 (go (eqb m 0) t)
-  where
-    go : (b : Bool) → T (not (not b)) → T b
-    go true t = t
-    go false t = t
-
 pub accepted-curve : (n last : ℕ) (c : Curve) (cs : List Curve) → curvesVerdict n last (c ∷ cs) ≡ Accepted →
     SoundCurve n last c × (curvesVerdict n (end c) cs ≡ Accepted)
 unfolding curvesVerdict curveVerdict
@@ -45,12 +39,12 @@ accepted-curve n last c cs e =
     let place = fault-accepted (placeOutside n c) curvePlaceRefused _ (size .1) in
     let order = fault-accepted (ltb (begin c) last) curveOrderRefused _ (place .1) in
     let g = inside-ℤ (negℤ (pos greatestGrade)) (pos greatestGrade) (c .«grade_out») (grade .0) in
-    let s = neither (not (eqb (c .length % 2) 0)) (ltb greatestCurve (c .length)) (size .0) in
-    let p = neither (ltb (c .pvi) (half c)) (ltb n (end c)) (place .0) in (
+    let s = or-no (not (eqb (c .length % 2) 0)) (ltb greatestCurve (c .length)) (size .0) in
+    let p = or-no (ltb (c .pvi) (half c)) (ltb n (end c)) (place .0) in (
       record {
         grade-low = g .0;
         grade-high = g .1;
-        even = not-odd (c .length % 2) (s .0);
+        even = no-difference (c .length % 2) 0 (s .0);
         short = nltb→le greatestCurve (c .length) (s .1);
         from-zero = nltb→le (c .pvi) (half c) (p .0);
         before-end = nltb→le n (end c) (p .1);

@@ -4,10 +4,11 @@ use mathlib.Core.Bool.{Bool, true, false, not, _||_}
 use mathlib.Core.List.{List}
 use mathlib.Core.Path.{_≡_, refl, sym, subst, _∙_}
 use native.Mathlib.Omega.{arith}
+use mir.Facts.{T-not-not, or-no}
 use mir.Syntax.{w32}
 use mir.Val.{SFits}
 use borrow.Author.Tests.{lt-ltb, le-ltb}
-use lib.Dec.{T, ltb, nltb→le}
+use lib.Dec.{T, ltb, eqb, eqb→eq, nltb→le}
 use lib.IntN.{ℤ}
 use lib.ListN.{length, take, replicate, length-replicate}
 use lib.Seq.{length-take-le}
@@ -115,17 +116,17 @@ pub first-fault-accepted : (v rest : Verdict) → firstFault v rest ≡ Accepted
 first-fault-accepted Accepted rest e = (refl, e)
 first-fault-accepted (Fault k) rest e = absurd (fault-not-accepted k e)
 
--- ---- ranges
--- two tests neither of which holds
-pub neither : (a b : Bool) → T (not (a || b)) → T (not a) × T (not b)
-neither true b t = absurd t
-neither false b t = (tt, t)
+-- ---- tests
+-- two numbers that do not differ
+pub no-difference : (m n : ℕ) → T (not (not (eqb m n))) → m ≡ n
+no-difference m n t = eqb→eq m n (T-not-not (eqb m n) t)
 
--- as a condition leaves it
+-- of two tests neither of which holds, as a condition leaves them
 pub neither-left : (a b : Bool) → (a || b) ≡ false → a ≡ false
 neither-left true b e = e
 neither-left false b e = refl
 
+-- ---- ranges
 -- what is in a range is not outside it
 pub not-outside : (low high x : ℕ) → (low ≤ x) × (x ≤ high) → outside low high x ≡ false
 not-outside low high x h = simp (le-ltb x low (h .0), le-ltb high x (h .1))
@@ -133,7 +134,7 @@ not-outside low high x h = simp (le-ltb x low (h .0), le-ltb high x (h .1))
 -- what is not outside a range is in it
 pub inside : (low high x : ℕ) → T (not (outside low high x)) → (low ≤ x) × (x ≤ high)
 inside low high x t =
-    let n = neither (ltb x low) (ltb high x) t in
+    let n = or-no (ltb x low) (ltb high x) t in
     (nltb→le x low (n .0), nltb→le high x (n .1))
 
 -- the same of the flag that a function answered
@@ -144,7 +145,7 @@ not-outside-in low high x e = inside low high x (subst (λ (t : Bool). T (not t)
 pub heights-in :
     (e o : ℕ) → heightsOutside e o ≡ false → ((1 ≤ e) × (e ≤ greatestHeight)) × ((1 ≤ o) × (o ≤ greatestHeight))
 heights-in e o p =
-    let n = neither (outside 1 greatestHeight e) (outside 1 greatestHeight o) (subst (λ (t : Bool). T (not t)) (sym p) tt) in
+    let n = or-no (outside 1 greatestHeight e) (outside 1 greatestHeight o) (subst (λ (t : Bool). T (not t)) (sym p) tt) in
     (inside 1 greatestHeight e (n .0), inside 1 greatestHeight o (n .1))
 
 pub heights-not-outside :
@@ -153,7 +154,7 @@ heights-not-outside e o p q = simp (not-outside 1 greatestHeight e p, not-outsid
 
 pub inside-ℤ : (low high z : ℤ) → T (not (outsideℤ low high z)) → (low ≤ℤ z) × (z ≤ℤ high)
 inside-ℤ low high z t =
-    let n = neither (ltZ z low) (ltZ high z) t in
+    let n = or-no (ltZ z low) (ltZ high z) t in
     (ltZ-no (n .0), ltZ-no (n .1))
 
 -- the value of a test that does not hold
