@@ -1,1 +1,2 @@
+pub mod Overlong
 pub mod Sound

@@ -1,3 +1,4 @@
+pub mod Front
 pub mod Lent
 pub mod Longest
 pub mod Placed
