@@ -1,4 +1,5 @@
--- `curves_in` meets its contract: one store a turn. The invariant: the first k places are filled with the records.
+-- `curves_in` meets its contract: one store a turn. The invariant: the first k places are filled with the records. The measure is
+-- what is left of the records.
 use mathlib.Core.Path.{_≡_, refl}
 use Prim.Native.Nat.{_≤_, _-_}
 use borrow.Author.Needs.{needs}

@@ -1,4 +1,5 @@
--- `put` meets its contract: one store a turn. The invariant: k places from `at` on are filled with the first k bytes.
+-- `put` meets its contract: one store a turn. The invariant: k places from `at` on are filled with the first k bytes. The measure
+-- is what is left of the bytes.
 use mathlib.Core.Path.{_≡_, refl, ap, _∙_}
 use Prim.Native.Nat.{ℕ, _≤_, _-_, _+_}
 use borrow.Author.Needs.{needs}

@@ -1,5 +1,5 @@
 -- `put_file` meets its contract: the header fills the first 16 places and each turn of the loop the 6 of its record. The
--- invariant: after the header k records are filled.
+-- invariant: after the header k records are filled. The measure is what is left of the records.
 use mathlib.Core.Path.{_≡_, refl, ap, _∙_}
 use Prim.Native.Nat.{_≤_, _-_, _*_}
 use borrow.Author.Needs.{needs}

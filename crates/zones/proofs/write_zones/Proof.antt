@@ -1,5 +1,6 @@
 -- `write_zones` meets its contract. The loop's invariant: the list holds the ends at the first `i` stations, and `at` is their
--- number. `zone-ends-put` is a turn; there is room because these ends are among those of all (`zone-ends-fit`).
+-- number. The measure is what is left of the stations. `zone-ends-put` is a turn; there is room because these ends are among those
+-- of all (`zone-ends-fit`).
 use Prim.Native.Nat.{_≤_, _+_, _-_}
 use mathlib.Core.Path.{_≡_, refl, ap, _∙_}
 use borrow.Author.Needs.{needs}
