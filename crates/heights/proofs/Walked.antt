@@ -4,11 +4,10 @@ use Prim.Native.Nat.{ℕ, _+_, _-_, _≤_, _<_}
 use mathlib.Core.List.{List, [], _∷_}
 use mathlib.Core.Path.{_≡_, refl, sym, ap, _∙_}
 use borrow.Author.Tests.{le-leb}
-use native.Mathlib.Numerals.{add-one}
 use native.Mathlib.Omega.{arith}
 use lib.IntN.{ℤ, natAbs}
-use lib.ListN.{length, drop, getD, set}
-use lib.Seq.{drop-cons, drop-length, getD-take, length-take-le}
+use lib.ListN.{length, drop, set}
+use lib.Seq.{drop-length, length-take-le}
 use Rattle.whole.specs.Fill.{filled}
 use Rattle.whole.specs.Floor.{whole, floor}
 use Rattle.whole.proofs.Fill.{filled-none, filled-next, filled-then}
@@ -73,13 +72,6 @@ walked-none r first s = record {
 }
 
 -- ---- one curve more
--- the curves left begin with the curve at that place
-pub next-curve : (r : Road) (i : ℕ) (d : Curve) → r .count ≤ length (r .curves) → i < r .count →
-    drop i (curvesOf r) ≡ getD (r .curves) i d ∷ drop (i + 1) (curvesOf r)
-next-curve r i d holds h =
-    let k : i < length (curvesOf r) = rw (length-take-le (r .count) (r .curves)) h in
-    rw (add-one, drop-cons (curvesOf r) i d, getD-take (r .count) (r .curves) i d) refl
-
 module _ (r : Road) (i : ℕ) (at : Walk) (c : Curve) (first list : List ℤ) (w : Walked r i at first list)
     (next : drop i (curvesOf r) ≡ c ∷ drop (i + 1) (curvesOf r)) where
   next-accepted : SoundCurve (r .length) (at .station) c × (curvesVerdict (r .length) (end c) (drop (i + 1) (curvesOf r)) ≡ Accepted)

@@ -2,11 +2,10 @@
 use Prim.Native.Nat.{ℕ, _+_, _≤_, _<_}
 use mathlib.Core.List.{List, [], _∷_}
 use mathlib.Core.Path.{_≡_}
-use native.Mathlib.Numerals.{add-one}
 use native.Mathlib.Omega.{arith}
 use lib.Dec.{ltb}
-use lib.ListN.{length, take, drop, getD}
-use lib.Seq.{drop-cons, drop-length, getD-take, length-take-le}
+use lib.ListN.{length, drop, getD}
+use lib.Seq.{drop-length, length-take-le}
 use Rattle.terms.specs.Answers.{outside, outsideℤ, firstFault}
 use Rattle.terms.specs.Limits.{leastSpeed, greatestSpeed, firstDecision, lastPurpose, greatestRoad, lowestStart, highestStart, greatestCurveCount}
 use Rattle.terms.proofs.Laws.{ByteFault, fault-byte, first-fault-byte}
@@ -14,20 +13,19 @@ use Rattle.terms.specs.declared.Verdict.the-variants.{Accepted}
 use Rattle.road.specs.declared.Curve.{Curve}
 use Rattle.road.specs.declared.Road.{Road}
 use Rattle.road.specs.Road.{begin, end, gradeOutside, lengthOutside, placeOutside, curvesOf, curveVerdict, curvesVerdict, roadVerdict}
+use Rattle.road.proofs.Places.{next-curve}
 
 -- ---- the curves from a place on
--- of the first `count` curves, from place i on: the fault of the curve there; else as the curves after it say
-module _ (n last : ℕ) (cs : List Curve) (count : ℕ) (holds : count ≤ length cs) where
-  pub curves-verdict-step : (i : ℕ) (d : Curve) → i < count →
-      curvesVerdict n last (drop i (take count cs)) ≡ firstFault (curveVerdict n last (getD cs i d)) (curvesVerdict n (end (getD cs i d)) (drop (i + 1) (take count cs)))
+-- from place i on: the fault of the curve there; else as the curves after it say
+module _ (r : Road) (holds : r .count ≤ length (r .curves)) (n last : ℕ) where
+  pub curves-verdict-step : (i : ℕ) (d : Curve) → i < r .count → let c = getD (r .curves) i d in
+      curvesVerdict n last (drop i (curvesOf r)) ≡ firstFault (curveVerdict n last c) (curvesVerdict n (end c) (drop (i + 1) (curvesOf r)))
   unfolding curvesVerdict
-  curves-verdict-step i d h =
-      let k : i < length (take count cs) = rw (length-take-le count cs) h in
-      rw (add-one, drop-cons (take count cs) i d, getD-take count cs i d)
+  curves-verdict-step i d h = rw (next-curve r i d holds h)
 
-  pub curves-verdict-end : curvesVerdict n last (drop count (take count cs)) ≡ Accepted
+  pub curves-verdict-end : curvesVerdict n last (drop (r .count) (curvesOf r)) ≡ Accepted
   unfolding curvesVerdict
-  curves-verdict-end = rw (rw (length-take-le count cs holds) at (drop-length (take count cs)))
+  curves-verdict-end = rw (rw (length-take-le (r .count) (r .curves) holds) at (drop-length (curvesOf r)))
 
 -- ---- every fault's number is a byte
 curve-verdict-byte : (n last : ℕ) (c : Curve) → ByteFault (curveVerdict n last c)

@@ -12,9 +12,9 @@ use Rattle.whole.proofs.Fill.{filled-length}
 use Rattle.whole.proofs.Range.{same-by}
 use Rattle.road.specs.Road.{noCurve, curvesOf}
 use Rattle.road.proofs.Accepted.{SoundRoad, accepted-road}
-use Rattle.road.proofs.Places.{curve-places}
+use Rattle.road.proofs.Places.{curve-places, next-curve}
 use Rattle.heights.proofs.Along.{grade-read, height-read}
-use Rattle.heights.proofs.Walked.{Walked, near-start, walked-none, next-curve, next-sound, next-on-road, walked-more, walked-all}
+use Rattle.heights.proofs.Walked.{Walked, near-start, walked-none, next-sound, next-on-road, walked-more, walked-all}
 use Rattle.heights.proofs.fill_road.Statement.{statement}
 use Rattle.heights.proofs.fill_road.Tie as tie
 

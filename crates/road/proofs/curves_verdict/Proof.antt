@@ -46,7 +46,7 @@ stepped : (c : tie.After-curve-verdict Inv-loop μ-loop) →
 stepped c =
     let l = c .before .before .before in
     let road = l .before .args .t1 in
-    rw (c .curve-verdict .ensures) (l .loop .inv .1 ∙ curves-verdict-step (road .length) (l .loop .last) (road .curves) (road .count) (in-use (l .before)) (l .loop .i) noCurve (c .before .before .loop-test .taken))
+    rw (c .curve-verdict .ensures) (l .loop .inv .1 ∙ curves-verdict-step road (in-use (l .before)) (road .length) (l .loop .last) (l .loop .i) noCurve (c .before .before .loop-test .taken))
 
 enum-told : tie.Need-enum-told Inv-loop μ-loop
 enum-told c = search needs
@@ -73,7 +73,7 @@ returns-2 : tie.Need-returns-2 Inv-loop μ-loop
 returns-2 c =
     let road = c .before .before .args .t1 in
     let e : c .before .loop .i ≡ road .count = omega arith in
-    sym ((rw e at (c .before .loop .inv .1)) ∙ curves-verdict-end (road .length) (c .before .loop .last) (road .curves) (road .count) (in-use (c .before .before)))
+    sym ((rw e at (c .before .loop .inv .1)) ∙ curves-verdict-end road (in-use (c .before .before)) (road .length) (c .before .loop .last))
 
 pub curves-verdict-spec : {M : Type 1} → statement M
 curves-verdict-spec =
