@@ -4,6 +4,7 @@ use sight_tests::program;
 use sight_tests::random::Random;
 use sight_tests::reference::file::{bytes, read};
 use sight_tests::reference::listing::listing;
+use sight_tests::reference::road::Road;
 use sight_tests::roads;
 
 fn compare(file: &[u8]) -> String {
@@ -38,6 +39,12 @@ fn random_runs_of_short_crests() {
 }
 
 #[test]
+fn shortest_road() {
+    let road = Road { speed: 130, purpose: 5, length: 1, start_height: -1, first_grade: -1, curves: vec![] };
+    assert_eq!(compare(&bytes(&road)), "VCP 1 130 285 525\ns 0 1\nd 0 1\n");
+}
+
+#[test]
 fn longest_road() {
     let mut random = Random::new(42);
     let mut road = roads::longest(&mut random);
@@ -48,15 +55,18 @@ fn longest_road() {
 /// A refused file has one line, whatever it holds; so has one that is longer than any road's.
 #[test]
 fn refused_files() {
+    assert_eq!(compare(&[]), "refused 1\n");
     let mut random = Random::new(43);
     let mut met = [0; 14];
     for round in 0..1_000 {
-        let refusal = 1 + round % 13;
-        let mut file = roads::faulty_file(&mut random, &[refusal]);
+        let fault = 1 + round % 13;
+        let mut file = roads::faulty_file(&mut random, &[fault]);
+        let mut refused = Err(fault);
         if round % 7 == 0 {
             file.extend((0..random.within(1..=400)).map(|_| random.bits() as u8));
+            refused = read(&file).map(drop);
         }
-        let Err(refusal) = read(&file) else { continue };
+        let Err(refusal) = refused else { continue };
         assert_eq!(compare(&file), format!("refused {refusal}\n"));
         met[refusal as usize] += 1;
     }

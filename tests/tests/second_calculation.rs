@@ -1,10 +1,9 @@
 //! The second calculation by itself, where no function of the proved libraries answers the same question: roads handed
-//! over as values, marks from heights, zones, and the lister's text.
+//! over as values, marks from heights, and zones.
 
 use sight_tests::random::Random;
 use sight_tests::reference::file::{bytes, read, write};
 use sight_tests::reference::fraction::Fraction;
-use sight_tests::reference::listing::listing;
 use sight_tests::reference::marks::{mark_road_file, marks, runs, zones, EYE, OBJECT};
 use sight_tests::reference::road::{exact_heights, heights, verdict, Curve, Road};
 use sight_tests::reference::sight::{available_sight, whole_heights, Look};
@@ -15,21 +14,6 @@ const EXAMPLE: [u8; 22] = [
     0x56, 0x43, 0x50, 0x01, 0x00, 0x14, 0x01, 0x2C, 0x01, 0x00, 0x00, 0x00, 0x00, 0xDC, 0x05, 0x01, 0x64, 0x00, 0x00,
     0x00, 0x24, 0xFA,
 ];
-
-const EXAMPLE_LISTING: &str = "\
-VCP 1 20 20 25
-S 83 95
-D 78 96
-R 78 82
-R 96 96
-s 281 300
-d 276 300
-";
-
-#[test]
-fn listing_of_document_01() {
-    assert_eq!(listing(&EXAMPLE), EXAMPLE_LISTING);
-}
 
 /// The example's road, read by hand.
 #[test]
@@ -47,22 +31,6 @@ fn road_of_the_example() {
     let mut filled = [0; 301];
     assert_eq!(heights(&road, &mut filled), Ok(301));
     assert_eq!([0, 1, 100, 101, 200, 300].map(|station| filled[station]), [0, 1_500, 150_000, 148_500, 0, -150_000]);
-}
-
-#[test]
-fn listing_of_the_shortest_road() {
-    let road = Road { speed: 130, purpose: 5, length: 1, start_height: -1, first_grade: -1, curves: vec![] };
-    assert_eq!(listing(&bytes(&road)), "VCP 1 130 285 525\ns 0 1\nd 0 1\n");
-}
-
-#[test]
-fn listing_of_refused_files() {
-    assert_eq!(listing(&[]), "refused 1\n");
-    let mut random = Random::new(22);
-    for refusal in 1..=13 {
-        let file = roads::faulty_file(&mut random, &[refusal]);
-        assert_eq!(listing(&file), format!("refused {refusal}\n"));
-    }
 }
 
 /// What is read from a written road is that road; a road over 32 curves is refused 4 before all else.
