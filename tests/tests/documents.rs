@@ -28,7 +28,7 @@ fn block<'a>(document: &'a str, first: &str) -> Vec<&'a str> {
     lines.take_while(|&line| line != "```").collect()
 }
 
-/// The listing of the README, whose lines have words behind two spaces, is that of its road.
+/// The listing of the README, whose lines have words behind two spaces, is what the lister prints for its road.
 #[test]
 fn listing_of_the_readme() {
     let readme = text("README.md");
@@ -36,7 +36,9 @@ fn listing_of_the_readme() {
         .into_iter()
         .map(|line| line.split("  ").next().unwrap_or_default())
         .collect();
-    assert_eq!(shown, listing(&three_crests()).lines().collect::<Vec<_>>());
+    let printed = program::output("lister", &three_crests());
+    assert_eq!(shown, printed.lines().collect::<Vec<_>>());
+    assert_eq!(printed, listing(&three_crests()), "second calculation");
 }
 
 /// The picture of the README is the one that the plotter draws of its road.
