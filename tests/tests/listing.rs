@@ -52,6 +52,19 @@ fn longest_road() {
     assert!(compare(&bytes(&road)).lines().count() > 1);
 }
 
+/// The longest file is listed. The program reads one byte more than that, so a longer file is refused by its length.
+#[test]
+fn longest_file() {
+    let mut road = roads::full(&mut Random::new(44));
+    road.speed = 30;
+    let file = bytes(&road);
+    assert_eq!(file.len(), 208);
+    assert!(compare(&file).starts_with("VCP 1 30 35 "));
+    for more in [1, 2, 100_000] {
+        assert_eq!(compare(&[file.clone(), vec![0; more]].concat()), "refused 5\n", "{more} bytes more");
+    }
+}
+
 /// A refused file has one line, whatever it holds; so has one that is longer than any road's.
 #[test]
 fn refused_files() {

@@ -208,6 +208,20 @@ fn edges() {
     compare(&roads::longest(&mut Random::new(73)));
 }
 
+/// The longest file is drawn. The program reads one byte more than that, so a longer file is refused by its length.
+#[test]
+fn longest_file() {
+    let mut road = roads::full(&mut Random::new(75));
+    road.speed = 30;
+    compare(&road);
+    let file = bytes(&road);
+    assert_eq!(file.len(), 208);
+    for more in [1, 2, 100_000] {
+        let lengthened = [file.clone(), vec![0; more]].concat();
+        assert_eq!(program::output("plotter", &lengthened), "refused 5\n", "{more} bytes more");
+    }
+}
+
 /// A refused file has one line, whatever it holds; so has one that is longer than any road's.
 #[test]
 fn refused_files() {
