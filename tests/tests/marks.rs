@@ -8,7 +8,7 @@ use sight_tests::reference::marks::{mark_road_file, runs};
 use sight_tests::reference::road::{Curve, Road};
 use sight_tests::reference::Answer;
 use sight_tests::roads;
-use sight_tests::tally::Tally;
+use sight_tests::tally::{Bits, Tally};
 use vcp::{DECISION_LACKING, DECISION_NOT_JUDGED, REDUCED_DECISION, STOPPING_LACKING, STOPPING_NOT_JUDGED};
 
 /// The van marks `places` bytes just as the second calculation does, and the rest stays.
@@ -34,18 +34,6 @@ fn compare_accepted(random: &mut Random, file: &[u8]) -> Vec<u8> {
     assert_eq!(answer, Ok(stations as u32));
     marks.truncate(stations);
     marks
-}
-
-/// How many marks have each of the eight bits.
-#[derive(Default)]
-struct Bits([usize; 8]);
-
-impl Bits {
-    fn count(&mut self, marks: &[u8]) {
-        for (bit, many) in self.0.iter_mut().enumerate() {
-            *many += marks.iter().filter(|&&mark| mark >> bit & 1 == 1).count();
-        }
-    }
 }
 
 #[test]

@@ -1,0 +1,65 @@
+//! The safe-Rust side of the bench gives the second calculation's answers. The gate does not run the bench.
+
+use sight_tests::quick;
+use sight_tests::random::Random;
+use sight_tests::reference::crest::{crest_length, Crest};
+use sight_tests::reference::distances::required_distance;
+use sight_tests::reference::file::bytes;
+use sight_tests::reference::marks::mark_road_file;
+use sight_tests::reference::Answer;
+use sight_tests::roads;
+use sight_tests::tally::{Bits, Tally};
+
+/// Both quick markings leave in `places` bytes what the second calculation does. Answers the marks.
+fn compare(file: &[u8], places: usize) -> (Answer, Vec<u8>) {
+    let mut marks = vec![0xA5; places];
+    let answer = mark_road_file(file, &mut marks);
+    for marking in [quick::mark_road_file, quick::mark_road_file_literally] {
+        let mut list = vec![0xA5; places];
+        assert_eq!(marking(file, &mut list), answer, "{places} places, {file:02X?}");
+        assert_eq!(list, marks, "{places} places, {file:02X?}");
+    }
+    (answer, marks)
+}
+
+/// Runs of short crests and sags, at any speed and for any purpose, and a straight behind them so that they are judged.
+#[test]
+fn markings() {
+    let mut random = Random::new(81);
+    let mut bits = Bits::default();
+    for round in 0..300 {
+        let room = random.within(2..=40);
+        let mut road = roads::run_of_crests(&mut random, room);
+        // Most are slow, so that there can be many.
+        if round % 30 != 0 {
+            road.speed = random.within(20..=40) as u8;
+        }
+        road.length += required_distance(road.speed.into(), road.purpose.into()).expect("both are accepted");
+        let (file, stations) = (bytes(&road), road.length as usize + 1);
+        assert_eq!(compare(&file, stations - 1).0, Err(14));
+        let (answer, marks) = compare(&file, stations + 3);
+        assert_eq!(answer, Ok(stations as u32));
+        bits.count(&marks[..stations]);
+    }
+    assert!(bits.0[..5].iter().all(|&many| many > 100), "{:?}", bits.0);
+}
+
+#[test]
+fn crest_lengths() {
+    let mut random = Random::new(82);
+    let mut tally = Tally::default();
+    for _ in 0..2_000 {
+        let mut number = |greatest: u32| match random.within(0..=19) {
+            0 => random.one_of(&[0, greatest + 1]),
+            _ => random.of_any_size(greatest),
+        };
+        let crest = Crest { drop: number(3_000), sight: number(800), eye: number(50_000), object: number(50_000) };
+        let answer = quick::crest_length(crest);
+        assert_eq!(answer, crest_length(crest), "{crest:?}");
+        tally.count(answer);
+    }
+    assert!(tally.numbers() > 1_000, "{} numbers", tally.numbers());
+    for refusal in 15..=18 {
+        assert!(tally.refused(refusal) > 50, "{} refused {refusal}", tally.refused(refusal));
+    }
+}
