@@ -1,8 +1,14 @@
-//! Random roads and road files, good and faulty.
+//! Document 01's example, and random roads and road files, good and faulty.
 
 use crate::random::Random;
 use crate::reference::file::bytes;
 use crate::reference::road::{Curve, Road};
+
+/// The road file of document 01's example for the lister.
+pub const EXAMPLE: [u8; 22] = [
+    0x56, 0x43, 0x50, 0x01, 0x00, 0x14, 0x01, 0x2C, 0x01, 0x00, 0x00, 0x00, 0x00, 0xDC, 0x05, 0x01, 0x64, 0x00, 0x00,
+    0x00, 0x24, 0xFA,
+];
 
 /// How curves are laid one behind the other: at most so many, with at most so many metres of straight before each and
 /// of curve on either side of its PVI, on a road of at most `room` metres.

@@ -3,12 +3,9 @@
 use sight_tests::bare;
 use sight_tests::random::Random;
 use sight_tests::reference::crest::{crest_length, Crest};
+use sight_tests::reference::marks::{EYE, OBJECT};
 use sight_tests::reference::Answer;
 use sight_tests::tally::Tally;
-
-/// 1.08 m and 0.60 m (source document 002), in h-units.
-const EYE: u32 = 10_800;
-const OBJECT: u32 = 6_000;
 
 fn crest(drop: u32, sight: u32, eye: u32, object: u32) -> Crest {
     Crest { drop, sight, eye, object }

@@ -5,7 +5,7 @@ use sight_tests::random::Random;
 use sight_tests::reference::file::{bytes, read};
 use sight_tests::reference::listing::listing;
 use sight_tests::reference::road::Road;
-use sight_tests::roads;
+use sight_tests::roads::{self, EXAMPLE};
 
 fn compare(file: &[u8]) -> String {
     let text = program::output("lister", file);
@@ -13,15 +13,12 @@ fn compare(file: &[u8]) -> String {
     text
 }
 
-/// Document 01's example, byte by byte.
+/// Document 01's example, byte by byte. It ships as a road file.
 #[test]
 fn example_of_document_01() {
-    let file = [
-        0x56, 0x43, 0x50, 0x01, 0x00, 0x14, 0x01, 0x2C, 0x01, 0x00, 0x00, 0x00, 0x00, 0xDC, 0x05, 0x01, 0x64, 0x00,
-        0x00, 0x00, 0x24, 0xFA,
-    ];
+    assert_eq!(*include_bytes!("../../roads/example.vcp"), EXAMPLE);
     let lines = "VCP 1 20 20 25\nS 83 95\nD 78 96\nR 78 82\nR 96 96\ns 281 300\nd 276 300\n";
-    assert_eq!(compare(&file), lines);
+    assert_eq!(compare(&EXAMPLE), lines);
 }
 
 #[test]

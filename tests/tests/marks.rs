@@ -7,7 +7,7 @@ use sight_tests::reference::file::{bytes, read};
 use sight_tests::reference::marks::{mark_road_file, runs};
 use sight_tests::reference::road::{Curve, Road};
 use sight_tests::reference::Answer;
-use sight_tests::roads;
+use sight_tests::roads::{self, EXAMPLE};
 use sight_tests::tally::{Bits, Tally};
 use vcp::{DECISION_LACKING, DECISION_NOT_JUDGED, REDUCED_DECISION, STOPPING_LACKING, STOPPING_NOT_JUDGED};
 
@@ -38,15 +38,7 @@ fn compare_accepted(random: &mut Random, file: &[u8]) -> Vec<u8> {
 
 #[test]
 fn example_of_document_01() {
-    let road = Road {
-        speed: 20,
-        purpose: 1,
-        length: 300,
-        start_height: 0,
-        first_grade: 1_500,
-        curves: vec![Curve { pvi: 100, length: 0, grade_out: -1_500 }],
-    };
-    let marks = compare_accepted(&mut Random::new(26), &bytes(&road));
+    let marks = compare_accepted(&mut Random::new(26), &EXAMPLE);
     let zones: [&[[u16; 2]]; 8] =
         [&[[83, 95]], &[[78, 96]], &[[78, 82], [96, 96]], &[[281, 300]], &[[276, 300]], &[], &[], &[]];
     for (bit, zones) in (0..).zip(zones) {

@@ -7,13 +7,7 @@ use sight_tests::reference::fraction::Fraction;
 use sight_tests::reference::marks::{mark_road_file, marks, runs, zones, EYE, OBJECT};
 use sight_tests::reference::road::{exact_heights, heights, verdict, Curve, Road};
 use sight_tests::reference::sight::{available_sight, whole_heights, Look};
-use sight_tests::roads;
-
-/// Document 01's example for the lister.
-const EXAMPLE: [u8; 22] = [
-    0x56, 0x43, 0x50, 0x01, 0x00, 0x14, 0x01, 0x2C, 0x01, 0x00, 0x00, 0x00, 0x00, 0xDC, 0x05, 0x01, 0x64, 0x00, 0x00,
-    0x00, 0x24, 0xFA,
-];
+use sight_tests::roads::{self, EXAMPLE};
 
 /// The example's road, read by hand.
 #[test]
