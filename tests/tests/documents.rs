@@ -1,4 +1,5 @@
-//! What the documents show is what the programs print, and the table of must-fail edits names them all.
+//! What the documents show is what the programs print, what they name is there, and the table of must-fail edits has
+//! them all.
 
 use std::collections::{BTreeMap, BTreeSet};
 use std::fs;
@@ -58,10 +59,59 @@ fn text_of_the_readme() {
     assert_eq!(shown, shipped.lines().skip(1).take(shown.len()).collect::<Vec<_>>());
 }
 
+/// A document without its blocks of code.
+fn prose(document: &str) -> String {
+    let parts: Vec<&str> = document.split("```").collect();
+    assert!(parts.len() % 2 == 1, "each block of code ends");
+    parts.into_iter().step_by(2).collect()
+}
+
+/// What stands between backquotes.
+fn quoted(text: &str) -> Vec<&str> {
+    text.split('`').skip(1).step_by(2).collect()
+}
+
+/// The files of a folder whose names end so.
+fn files(folder: &Path, ending: &str) -> Vec<PathBuf> {
+    let entries = fs::read_dir(folder).unwrap_or_else(|error| panic!("{}: {error}", folder.display())).flatten();
+    entries.map(|entry| entry.path()).filter(|path| path.extension().is_some_and(|own| own == ending)).collect()
+}
+
+/// Each link of the README and of the documents names something that is there. One to the network is not looked at.
+#[test]
+fn links_name_what_is_there() {
+    let mut documents = files(&root().join("docs"), "md");
+    documents.push(root().join("README.md"));
+    let mut found = 0;
+    for path in documents {
+        let document = prose(&fs::read_to_string(&path).expect("a document is text"));
+        let links = document.split("](").skip(1).map(|rest| rest.split([')', '#']).next().unwrap_or_default());
+        for link in links.filter(|link| !link.contains("://")) {
+            assert!(path.with_file_name(link).exists(), "{} has a link to {link}", path.display());
+            found += 1;
+        }
+    }
+    assert!(found > 15, "{found} links");
+}
+
+/// Each `crate::function` that these documents name is a public one of that crate.
+#[test]
+fn functions_are_those_of_the_crates() {
+    let functions = public_functions();
+    for (path, least) in [("README.md", 5), ("docs/ARCHITECTURE.md", 10)] {
+        let document = prose(&text(path));
+        let named: Vec<&str> = quoted(&document).into_iter().filter(|name| name.contains("::")).collect();
+        for &name in &named {
+            assert!(functions.contains(name), "{path} names {name}");
+        }
+        assert!(named.len() > least, "{path} names {named:?}");
+    }
+}
+
 /// The table of wrong answers: each contract, such as `sight::profile`, with its edits. A row may have several contracts, whose
 /// wrong answers one edit makes; an empty first column stands for the contracts above.
 fn wrong_answers(table: &str) -> BTreeMap<String, Vec<String>> {
-    let names = |column: &str| column.split('`').skip(1).step_by(2).map(String::from).collect::<Vec<_>>();
+    let names = |column: &str| quoted(column).into_iter().map(String::from).collect::<Vec<_>>();
     let mut answers: BTreeMap<String, Vec<String>> = BTreeMap::new();
     let mut contracts = Vec::new();
     for line in table.lines().filter(|line| line.starts_with('|')) {
@@ -81,6 +131,24 @@ fn wrong_answers(table: &str) -> BTreeMap<String, Vec<String>> {
 fn crates() -> Vec<(String, PathBuf)> {
     let folders = fs::read_dir(root().join("crates")).expect("the crates are there").flatten();
     folders.map(|folder| (folder.file_name().to_string_lossy().into_owned(), folder.path())).collect()
+}
+
+/// The name of the public function that begins on a line of Rattle.
+fn public_function(line: &str) -> Option<&str> {
+    let rest = line.strip_prefix("pub fn ").or(line.strip_prefix("pub extern \"C\" fn "))?;
+    rest.split('(').next()
+}
+
+/// The public functions of the crates, such as `sight::profile`.
+fn public_functions() -> BTreeSet<String> {
+    let mut functions = BTreeSet::new();
+    for (name, folder) in crates() {
+        for source in files(&folder.join("src"), "rt") {
+            let source = fs::read_to_string(source).expect("a source is text");
+            functions.extend(source.lines().filter_map(public_function).map(|function| format!("{name}::{function}")));
+        }
+    }
+    functions
 }
 
 /// The table names each must-fail edit of each crate, and no other.
@@ -106,18 +174,10 @@ fn every_edit_is_in_the_table() {
 #[test]
 fn every_contract_rules_out_two_answers() {
     let table = wrong_answers(&text("docs/RULED-OUT.md"));
-    let mut functions = 0;
-    for (name, folder) in crates() {
-        let Ok(source) = fs::read_to_string(folder.join("src/lib.rt")) else { continue };
-        for line in source.lines() {
-            let Some(rest) = line.strip_prefix("pub fn ").or(line.strip_prefix("pub extern \"C\" fn ")) else {
-                continue;
-            };
-            let function = rest.split('(').next().unwrap_or_default();
-            let edits = table.get(&format!("{name}::{function}")).map_or(0, Vec::len);
-            assert!(edits >= 2, "{name}::{function} has {edits}");
-            functions += 1;
-        }
+    let functions = public_functions();
+    for function in &functions {
+        let edits = table.get(function).map_or(0, Vec::len);
+        assert!(edits >= 2, "{function} has {edits}");
     }
-    assert!(functions > 20, "{functions} public functions");
+    assert!(functions.len() > 20, "{} public functions", functions.len());
 }
