@@ -133,14 +133,14 @@ impl Road {
         file
     }
 
-    /// The road file, if the proved reader accepts it. The lowest curve with a fault decides, so the one at fault is the last
-    /// of the fewest first curves that are refused. A road that is refused without curves is so by a number before them.
+    /// The road file, if the proved reader accepts it. The number of curves is judged first, then the numbers before
+    /// the curves, then curve by curve. So the last of the fewest first curves that are refused by the same number is
+    /// at fault; or, where that is no curve at all, a number before them.
     fn judged_file(&self) -> Result<Vec<u8>, Fault> {
         let all = self.curves.len();
         let file = self.file(all);
         let Err(refusal) = accept(&file) else { return Ok(file) };
-        let refused = |curves: usize| Some((curves, accept(&self.file(curves)).err()?));
-        let (curves, refusal) = (0..all).find_map(refused).unwrap_or((all, refusal));
+        let curves = (0..all).find(|&curves| accept(&self.file(curves)) == Err(refusal)).unwrap_or(all);
         let line = match (curves, refusal.number()) {
             (0, 6) => self.head[0].line,
             (0, 7) => self.head[1].line,

@@ -332,9 +332,9 @@ fn several_bad_lines() {
 
 /// The line that the second calculation would blame, with its refusal's number.
 fn blamed(road: &Road, written: &Written) -> Option<(usize, u32)> {
+    let refusal = verdict(road).err()?;
     let first = |curves: usize| Road { curves: road.curves[..curves].to_vec(), ..road.clone() };
-    let (curves, refusal) =
-        (0..=road.curves.len()).find_map(|curves| Some((curves, verdict(&first(curves)).err()?)))?;
+    let curves = (0..=road.curves.len()).find(|&curves| verdict(&first(curves)) == Err(refusal))?;
     let line = if curves == 0 { written.head[refusal as usize - 6] } else { written.curves[curves - 1] };
     Some((line, refusal))
 }
@@ -352,6 +352,9 @@ fn refused_roads() {
         for refusal in refusals {
             roads::spoil_road(&mut random, &mut road, refusal);
         }
+        if random.once_in(20) {
+            road.curves.resize(random.within(33..=40) as usize, Curve { pvi: 1, length: 0, grade_out: 0 });
+        }
         let written = write(&mut random, &road);
         let Some((line, refusal)) = blamed(&road, &written) else { continue };
         let faults = road_file(&written.text).expect_err("the road is refused");
@@ -361,7 +364,8 @@ fn refused_roads() {
         met[refusal as usize] += 1;
         of_curves += usize::from(written.curves.contains(&line));
     }
-    assert!(met[6..].iter().all(|&many| many > 100) && of_curves > 500, "{met:?}, {of_curves} of curves");
+    assert!(met[4] > 100 && met[6..].iter().all(|&many| many > 100), "{met:?}");
+    assert!(of_curves > 500, "{of_curves} of curves");
 }
 
 #[test]
@@ -375,6 +379,21 @@ fn one_curve_too_many() {
         } else {
             assert_eq!(answer, Err(vec![fault(5 + 33, "refused 4: there are more than 32 curves")]), "{curves}");
         }
+    }
+}
+
+/// The 33rd curve is refused before any other fault.
+#[test]
+fn one_curve_too_many_and_another_fault() {
+    for (line, text) in [(1, "speed 131 km/h"), (5 + 5, "curve 500 m, 1 m, 0 %")] {
+        let mut lines = GOOD[..5].to_vec();
+        lines.extend(["curve 500 m, 0 m, 0 %"; 33]);
+        lines[line - 1] = text;
+        let too_many = fault(5 + 33, "refused 4: there are more than 32 curves");
+        assert_eq!(road_file(&lines.join("\n")), Err(vec![too_many]), "{text}");
+        lines.pop();
+        let faults = road_file(&lines.join("\n")).expect_err("the other fault is there still");
+        assert_eq!(faults.iter().map(|fault| fault.line).collect::<Vec<_>>(), [line], "{text}");
     }
 }
 
