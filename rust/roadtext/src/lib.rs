@@ -12,7 +12,7 @@
 //! curve 900 m, 0 m, -2.75 %
 //! ```
 //!
-//! - Each line holds one item; blank lines and all that follows a `#` are passed over.
+//! - Each line holds one item; blank lines, all that follows a `#` and a byte-order mark in front are passed over.
 //! - Speed, purpose, length, start height and first grade stand once each, in any order.
 //! - Curves are those of the road in their order, each with its PVI, its length and its grade out between commas.
 //! - A number is decimal digits, after a minus if it is negative; a space and its unit follow, as above.

@@ -3,6 +3,9 @@
 use crate::field::{CURVE, HEAD};
 use crate::Fault;
 
+/// What some editors put at the front of a text.
+const BYTE_ORDER_MARK: char = '\u{feff}';
+
 /// An item, and the line where it stands.
 #[derive(Clone, Copy)]
 pub struct Placed<T> {
@@ -70,6 +73,7 @@ fn curve(text: &str) -> Result<[i64; 3], String> {
 
 /// Reads all lines; answers all that is wrong.
 pub fn read_lines(text: &str) -> Result<Road, Vec<Fault>> {
+    let text = text.strip_prefix(BYTE_ORDER_MARK).unwrap_or(text);
     let mut items = Items::default();
     let mut faults = Vec::new();
     let mut last = 1;

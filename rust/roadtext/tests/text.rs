@@ -220,6 +220,18 @@ fn unknown_words() {
     expect(6, "  start\theight:\u{7}1 m # x", &format!("unknown words in \"start height:\\u{{7}}1 m\": {known}"));
 }
 
+/// A byte-order mark is passed over at the front of the text, once, and nowhere else.
+#[test]
+fn byte_order_marks() {
+    let good = GOOD.join("\n");
+    let file = road_file(&good).expect("a good text");
+    assert_eq!(road_file(&format!("\u{feff}{good}")), Ok(file));
+    for (line, text) in [(1, format!("\u{feff}\u{feff}{good}")), (2, format!("\n\u{feff}{good}"))] {
+        let faults = road_file(&text).expect_err("an unknown word");
+        assert!(faults[0].line == line && faults[0].reason.starts_with("unknown words"), "{faults:?}");
+    }
+}
+
 #[test]
 fn repeated_lines() {
     for (first, (text, name)) in (1..).zip(GOOD.into_iter().zip(NAMES)) {
