@@ -39,7 +39,7 @@ fn write_whole(path: &Path, bytes: &[u8]) -> io::Result<()> {
 
 /// Turns a text into a road file, and answers where it was written.
 fn road(text: &Path, road: PathBuf) -> Result<String, Lines> {
-    // Bytes that are no text are passed over in a comment, and are an unknown word anywhere else.
+    // Bytes that are no text are passed over in a comment, and are refused anywhere else.
     let bytes = read(text)?;
     let file = roadtext::road_file(&String::from_utf8_lossy(&bytes))
         .map_err(|faults| faults.iter().map(|fault| format!("{}:{fault}", text.display())).collect::<Lines>())?;
