@@ -1,10 +1,12 @@
-//! What the tests share: the functions of crate `probe` (those of the van are in the package `vcp`), the second calculation
-//! that the proved functions are compared with, the programs, generators of inputs and a count of answers.
+//! What the tests share: the functions of crate `probe` (those of the van are in the package `vcp`), the second
+//! calculation that the proved functions are compared with, the comparing of lent lists, the programs, generators of
+//! inputs and counts.
 
 use vcp::Refusal;
 
 use crate::reference::Answer;
 
+pub mod lent;
 pub mod probe;
 pub mod program;
 pub mod quick;

@@ -43,6 +43,11 @@ impl Random {
         self.within(1..=limit)
     }
 
+    /// A list of random numbers, each cut down from random bits.
+    pub fn list<T>(&mut self, places: usize, cut: impl Fn(u64) -> T) -> Vec<T> {
+        (0..places).map(|_| cut(self.bits())).collect()
+    }
+
     pub fn one_of<T: Copy>(&mut self, choices: &[T]) -> T {
         choices[self.within(0..=choices.len() as u32 - 1) as usize]
     }

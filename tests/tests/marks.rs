@@ -1,6 +1,7 @@
 //! Document 01, "Marks and zones": the marking of a road file.
 
 use sight_tests::bare;
+use sight_tests::lent;
 use sight_tests::random::Random;
 use sight_tests::reference::distances::required_distance;
 use sight_tests::reference::file::{bytes, read};
@@ -13,15 +14,9 @@ use vcp::{DECISION_LACKING, DECISION_NOT_JUDGED, REDUCED_DECISION, STOPPING_LACK
 
 /// The van marks `places` bytes just as the second calculation does, and the rest stays.
 fn compare(random: &mut Random, file: &[u8], places: usize) -> (Answer, Vec<u8>) {
-    let before: Vec<u8> = (0..places).map(|_| random.bits() as u8).collect();
-    let (mut marks, mut second) = (before.clone(), before.clone());
-    let answer = bare(vcp::mark_road_file(file, &mut marks));
-    assert_eq!(answer, mark_road_file(file, &mut second), "{places} places, {file:02X?}");
-    assert_eq!(marks, second, "{places} places, {file:02X?}");
-    if answer.is_err() {
-        assert_eq!(marks, before, "a refusal changes nothing");
-    }
-    (answer, marks)
+    let proved = |list: &mut [u8]| bare(vcp::mark_road_file(file, list));
+    let second = |list: &mut [u8]| mark_road_file(file, list);
+    lent::compare(&random.list(places, |bits| bits as u8), proved, second, format_args!("{file:02X?}"))
 }
 
 /// Compares an accepted file in buffers that are one place too short, empty, and long enough. Answers the marks.

@@ -1,6 +1,7 @@
 //! Document 01, "The road and its heights" and "Road file": heights are filled from a road file, and the file is
 //! written again from its road.
 
+use sight_tests::lent;
 use sight_tests::probe;
 use sight_tests::random::Random;
 use sight_tests::reference::file::{bytes, file_heights, read, rewrite};
@@ -20,27 +21,18 @@ fn road(first_grade: i16, curves: &[Curve]) -> Road {
 
 /// The program fills `places` numbers with heights just as the second calculation does, and the rest stays.
 fn compare_heights(random: &mut Random, file: &[u8], places: usize) -> Answer {
-    let before: Vec<i32> = (0..places).map(|_| random.bits() as i32).collect();
-    let (mut filled, mut second) = (before.clone(), before.clone());
-    let answer = probe::heights(file, &mut filled);
-    assert_eq!(answer, file_heights(file, &mut second), "{places} places, {file:02X?}");
-    assert_eq!(filled, second, "{places} places, {file:02X?}");
-    if answer.is_err() {
-        assert_eq!(filled, before, "a refusal changes nothing");
-    }
-    answer
+    let proved = |list: &mut [i32]| probe::heights(file, list);
+    let second = |list: &mut [i32]| file_heights(file, list);
+    lent::compare(&random.list(places, |bits| bits as i32), proved, second, format_args!("{file:02X?}")).0
 }
 
 /// The program writes into `places` bytes just as the second calculation does, and the rest stays.
 fn compare_rewriting(random: &mut Random, file: &[u8], places: usize) -> Answer {
-    let before: Vec<u8> = (0..places).map(|_| random.bits() as u8).collect();
-    let (mut written, mut second) = (before.clone(), before.clone());
-    let answer = probe::rewrite(file, &mut written);
-    assert_eq!(answer, rewrite(file, &mut second), "{places} places, {file:02X?}");
-    assert_eq!(written, second, "{places} places, {file:02X?}");
-    if answer.is_err() {
-        assert_eq!(written, before, "a refusal changes nothing");
-    } else {
+    let proved = |buffer: &mut [u8]| probe::rewrite(file, buffer);
+    let second = |buffer: &mut [u8]| rewrite(file, buffer);
+    let before = random.list(places, |bits| bits as u8);
+    let (answer, written) = lent::compare(&before, proved, second, format_args!("{file:02X?}"));
+    if answer.is_ok() {
         assert_eq!(written[..file.len()], *file, "a road is written as it was read");
     }
     answer

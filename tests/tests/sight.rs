@@ -1,6 +1,7 @@
 //! Document 01, "What can be seen": sight over lent heights, over those of roads, and on the exact parabolas and
 //! straights.
 
+use sight_tests::lent;
 use sight_tests::probe;
 use sight_tests::random::Random;
 use sight_tests::reference::distances::required_distance;
@@ -32,15 +33,9 @@ fn compare_sight(heights: &[i32], station: u32, look: Look) -> Answer {
 
 /// The program fills `places` numbers with sights just as the second calculation does, and the rest stays.
 fn compare_profile(random: &mut Random, heights: &[i32], look: Look, places: usize) -> (Answer, Vec<u16>) {
-    let before: Vec<u16> = (0..places).map(|_| random.bits() as u16).collect();
-    let (mut sights, mut second) = (before.clone(), before.clone());
-    let answer = probe::profile(heights, look, &mut sights);
-    assert_eq!(answer, sight_profile(heights, look, &mut second), "{places} places, {look:?}, {heights:?}");
-    assert_eq!(sights, second, "{places} places, {look:?}, {heights:?}");
-    if answer.is_err() {
-        assert_eq!(sights, before, "a refusal changes nothing");
-    }
-    (answer, sights)
+    let proved = |list: &mut [u16]| probe::profile(heights, look, list);
+    let second = |list: &mut [u16]| sight_profile(heights, look, list);
+    lent::compare(&random.list(places, |bits| bits as u16), proved, second, format_args!("{look:?}, {heights:?}"))
 }
 
 /// Compares the sight profile and the sight from each single station, which must agree. Answers the sights.
