@@ -12,7 +12,7 @@ use lib.ListN.{length, getD}
 use Rattle.whole.specs.Floor.{Frac}
 use Rattle.whole.proofs.Fill.{filled-at}
 use Rattle.whole.proofs.Floor.{Floor}
-use Rattle.terms.specs.Answers.{outside, listOutside, heightsOutside}
+use Rattle.terms.specs.Answers.{outside, listOutside, eyeOrObjectOutside}
 use Rattle.terms.proofs.Laws.{not-outside, heights-not-outside}
 use Rattle.terms.specs.Limits.{greatestRoad, greatestList, greatestHeight, greatestFarthest}
 use Rattle.terms.specs.declared.Answer.the-variants.{Number}
@@ -24,7 +24,7 @@ use Rattle.heights.specs.Profile.{exactHeight, storedHeight}
 use Rattle.heights.specs.Heights.{heightsList}
 use Rattle.heights.proofs.Profile.{stored-floor}
 use Rattle.heights.proofs.Filled.{heights-number, heights-filled, heights-length}
-use Rattle.sight.specs.Sight.{at, clears, seen, availableSight}
+use Rattle.sight.specs.Sight.{heightAt, clears, seen, availableSight}
 use Rattle.sight.specs.Operations.{sightAnswer, profileAnswer, profileList}
 use Rattle.sight.proofs.Reach.{sight-mono}
 use Rattle.sight.proofs.Seen.{between-at, between-by}
@@ -60,8 +60,8 @@ module _ (H : ℕ → Frac) (h : ℕ → ℤ) (e o i j : ℕ) (floors : (k : ℕ
 
 -- ---- how far is seen: a road, and a list of just its stored heights
 module _ (r : Road) (list : List ℤ) (i far : ℕ) (size : length list ≡ r .length + 1)
-    (stored : (k : ℕ) → k ≤ r .length → at list k ≡ storedHeight r k) where
-  floors : (j : ℕ) → j ≤ r .length → (k : ℕ) → k ≤ j → Floor (exactHeight r k) (at list k)
+    (stored : (k : ℕ) → k ≤ r .length → heightAt list k ≡ storedHeight r k) where
+  floors : (j : ℕ) → j ≤ r .length → (k : ℕ) → k ≤ j → Floor (exactHeight r k) (heightAt list k)
   floors j l k m = rw (stored k (omega arith)) (stored-floor r k)
 
   last : length list - 1 ≡ r .length
@@ -71,20 +71,20 @@ module _ (r : Road) (list : List ℤ) (i far : ℕ) (size : length list ≡ r .l
   unfolding exactSight availableSight
   exact-le-sight e o =
       rw last
-      (sight-mono i (r .length) far _ _ (λ j l m. seen-of-exact (exactHeight r) (at list) e o i j (floors j m)))
+      (sight-mono i (r .length) far _ _ (λ j l m. seen-of-exact (exactHeight r) (heightAt list) e o i j (floors j m)))
 
   sight-le-exact : (e o : ℕ) → availableSight list i e o far ≤ exactSight r i (e + 1) (o + 1) far
   unfolding exactSight availableSight
   sight-le-exact e o =
       rw last
-      (sight-mono i (r .length) far _ _ (λ j l m. exact-of-seen (exactHeight r) (at list) e o i j (floors j m)))
+      (sight-mono i (r .length) far _ _ (λ j l m. exact-of-seen (exactHeight r) (heightAt list) e o i j (floors j m)))
 
 -- ---- a road's own heights
 module _ (r : Road) (list : List ℤ) (ok : roadVerdict r ≡ Accepted) (size : length list ≡ r .length + 1) where
   own-length : length (heightsList r list) ≡ r .length + 1
   own-length = heights-length r list ∙ size
 
-  own-height : (k : ℕ) → k ≤ r .length → at (heightsList r list) k ≡ storedHeight r k
+  own-height : (k : ℕ) → k ≤ r .length → heightAt (heightsList r list) k ≡ storedHeight r k
   own-height k l =
       rw (heights-filled r list ok (omega arith))
       (filled-at (storedHeight r) 0 (r .length + 1) list k (pos 0) (omega arith) (omega arith) (omega arith))
@@ -101,7 +101,7 @@ module _ {list : List ℤ} {e o far : ℕ} (a : Admitted list e o far) where
   list-admitted : listOutside (length list) ≡ false
   list-admitted = not-outside 1 greatestList (length list) (a .stations)
 
-  heights-admitted : heightsOutside e o ≡ false
+  heights-admitted : eyeOrObjectOutside e o ≡ false
   heights-admitted = heights-not-outside e o (a .eye) (a .object)
 
   farthest-admitted : outside 1 greatestFarthest far ≡ false

@@ -10,7 +10,7 @@ use borrow.Author.Tests.{le-leb, le-ltb, leb-true, leb-false, ltb-true}
 use lib.Dec.{T, leb, ltb, leb→le, le→leb}
 use lib.IntN.{pos, negsuc, _-ℤ_, _*ℤ_, subℕ}
 use lib.Signed.{_≤ℤ_}
-use Rattle.terms.specs.Answers.{outside, heightsOutside, refuse}
+use Rattle.terms.specs.Answers.{outside, eyeOrObjectOutside, refuse}
 use Rattle.terms.specs.Limits.{greatestDrop, greatestSightDistance, greatestHeight, greatestCrest}
 use Rattle.terms.specs.Refusals.{dropRefused, sightDistanceRefused, heightRefused, noLengthRefused}
 use Rattle.terms.proofs.Laws.{AtMost, refuse-at-most, not-outside, heights-not-outside}
@@ -210,7 +210,7 @@ crest-length-number a s e o r p =
     let n = greatestCrest / 2 + 1 in
     first-least a s e o r
     (subst (FirstEven test 0 n)
-    (refuse-number (heightsOutside e o) heightRefused r _
+    (refuse-number (eyeOrObjectOutside e o) heightRefused r _
     (refuse-number (outside 1 greatestSightDistance s) sightDistanceRefused r _
     (refuse-number (outside 1 greatestDrop a) dropRefused r _ p)))
     (least-even-is test 0 n))
@@ -228,7 +228,7 @@ crest-length-at-most a s e o =
     let n = greatestCrest / 2 + 1 in
     refuse-at-most (outside 1 greatestDrop a) _ _ _ (omega arith) (λ p.
     refuse-at-most (outside 1 greatestSightDistance s) _ _ _ (omega arith) (λ q.
-    refuse-at-most (heightsOutside e o) _ _ _ (omega arith) (λ t.
+    refuse-at-most (eyeOrObjectOutside e o) _ _ _ (omega arith) (λ t.
     first-even-at-most test (leastEven test 0 n) (least-even-is test 0 n))))
 
 -- 18 is said exactly where no even length up to 2,000 is adequate

@@ -9,7 +9,7 @@
 use Prim.Native.Nat.{ℕ, zero, suc, _+_, _*_, _-_, _/_}
 use mathlib.Core.Bool.{Bool, cond, _||_}
 use lib.Dec.{leb}
-use Rattle.terms.specs.Answers.{outside, heightsOutside, refuse}
+use Rattle.terms.specs.Answers.{outside, eyeOrObjectOutside, refuse}
 use Rattle.terms.specs.Limits.{greatestDrop, greatestSightDistance, greatestCrest}
 use Rattle.terms.specs.Refusals.{dropRefused, sightDistanceRefused, heightRefused, noLengthRefused}
 use Rattle.terms.specs.declared.Answer.{Answer}
@@ -37,5 +37,5 @@ unfoldable pub crestLength : ℕ → ℕ → ℕ → ℕ → Answer
 crestLength a s e o =
     refuse (outside 1 greatestDrop a) dropRefused
     (refuse (outside 1 greatestSightDistance s) sightDistanceRefused
-    (refuse (heightsOutside e o) heightRefused
+    (refuse (eyeOrObjectOutside e o) heightRefused
     (leastEven (adequate a s (2 * (e + o)) (16 * e * o)) 0 (greatestCrest / 2 + 1))))

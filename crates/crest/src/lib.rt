@@ -64,7 +64,7 @@ pub fn crest_length(drop: u32, sight: u32, eye: u32, object: u32) -> Answer
     if terms::outside(1, terms::GREATEST_SIGHT_DISTANCE, sight) {
         return Answer::Refused(terms::SIGHT_DISTANCE_REFUSED);
     }
-    if terms::heights_outside(eye, object) {
+    if terms::eye_or_object_outside(eye, object) {
         return Answer::Refused(terms::HEIGHT_REFUSED);
     }
     let e = eye as u64;

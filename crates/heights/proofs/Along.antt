@@ -20,7 +20,7 @@ use Rattle.road.specs.Road.{begin, end, half}
 use Rattle.road.proofs.Accepted.{SoundCurve}
 use Rattle.heights.specs.declared.Walk.{Walk}
 use Rattle.heights.specs.Profile.{straight, onCurve, endHeight, exactFrom}
-use Rattle.heights.specs.Walk.{Near, Mild, heightAlong, heightOver, exactAhead, along, past}
+use Rattle.heights.specs.Walk.{WalkInRange, CurveInRange, heightAlong, heightOver, exactAhead, along, past}
 
 -- ---- sizes
 -- how far from zero a walk on a road can stand
@@ -28,17 +28,17 @@ abbrev heightBound : ℕ
 heightBound = natAbs highestStart + greatestGrade * greatestRoad
 
 -- the grade and the height of a walk, and a curve's grade out, as it reads them
-abbrev pub grade-read : {at : Walk} → Near at → Reads (toZ w16 (ofZ w16 (at .grade))) (at .grade)
+abbrev pub grade-read : {at : Walk} → WalkInRange at → Reads (toZ w16 (ofZ w16 (at .grade))) (at .grade)
 grade-read {at} near = knownR w16 (at .grade) greatestGrade (near .grade-size)
 
-abbrev pub height-read : {at : Walk} → Near at → at .station ≤ greatestRoad → Reads (toZ w32 (ofZ w32 (at .height))) (at .height)
+abbrev pub height-read : {at : Walk} → WalkInRange at → at .station ≤ greatestRoad → Reads (toZ w32 (ofZ w32 (at .height))) (at .height)
 height-read {at} near l = knownR w32 (at .height) heightBound (omega (arith, near .height-size))
 
-abbrev pub out-read : {c : Curve} → Mild c → Reads (toZ w16 (ofZ w16 (c .«grade_out»))) (c .«grade_out»)
+abbrev pub out-read : {c : Curve} → CurveInRange c → Reads (toZ w16 (ofZ w16 (c .«grade_out»))) (c .«grade_out»)
 out-read {c} mild = knownR w16 (c .«grade_out») greatestGrade (mild .grade-size)
 
 -- on along the straight
-pub near-along : (at : Walk) (x : ℕ) → Near at → at .station ≤ x → Near (along at x)
+pub near-along : (at : Walk) (x : ℕ) → WalkInRange at → at .station ≤ x → WalkInRange (along at x)
 near-along at x n l =
     let d = x - at .station in
     let rise = mul-size (at .grade) (pos d) greatestGrade d (n .grade-size) (omega arith) in
@@ -92,14 +92,14 @@ exact-upto x₀ z g c cs x u = simp (le-leb _ _ u)
 
 -- ---- past the curve
 -- a curve without a fault
-pub sound-mild : {n last : ℕ} {c : Curve} → SoundCurve n last c → Mild c
+pub sound-mild : {n last : ℕ} {c : Curve} → SoundCurve n last c → CurveInRange c
 sound-mild {c = c} s = record {
   grade-size = range-size {a = greatestGrade} (c .«grade_out») (omega arith) (s .grade-low) (s .grade-high);
   short = s .short;
 }
 
 -- the walk at its end
-pub near-past : (n : ℕ) (at : Walk) (c : Curve) → Near at → SoundCurve n (at .station) c → Near (past at c)
+pub near-past : (n : ℕ) (at : Walk) (c : Curve) → WalkInRange at → SoundCurve n (at .station) c → WalkInRange (past at c)
 near-past n at c near s =
     let out = sound-mild s .grade-size in
     let foot = near-along at (begin c) near (s .ordered) in

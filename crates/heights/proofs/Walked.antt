@@ -22,7 +22,7 @@ use Rattle.road.specs.Road.{begin, end, curvesOf, curvesVerdict}
 use Rattle.road.proofs.Accepted.{SoundCurve, SoundRoad, accepted-curve, sound-curve}
 use Rattle.heights.specs.declared.Walk.{Walk}
 use Rattle.heights.specs.Profile.{straight, exactFrom, exactHeight, storedHeight}
-use Rattle.heights.specs.Walk.{Near, heightAlong, exactAhead, past}
+use Rattle.heights.specs.Walk.{WalkInRange, heightAlong, exactAhead, past}
 use Rattle.heights.proofs.Along.{exact-past, exact-upto, near-past}
 
 -- past i curves of the road the walk stands at the end of the last: the heights after station 0 are filled up to there, and from
@@ -33,7 +33,7 @@ pub record Walked (r : Road) (i : ℕ) (at : Walk) (first list : List ℤ) : Typ
   pub ahead : (x : ℕ) → at .station < x → exactHeight r x ≡ exactAhead at (drop i (curvesOf r)) x
   pub accepted : curvesVerdict (r .length) (at .station) (drop i (curvesOf r)) ≡ Accepted
   pub on-road : at .station ≤ r .length
-  pub near : Near at
+  pub near : WalkInRange at
 
 -- ---- the start
 -- no metre on, the height is the same
@@ -54,7 +54,7 @@ stored-start r =
 abbrev pub start : Road → Walk
 start r = record { station = 0; height = r .«start_height»; grade = r .«first_grade» }
 
-pub near-start : (r : Road) → SoundRoad r → Near (start r)
+pub near-start : (r : Road) → SoundRoad r → WalkInRange (start r)
 near-start r s = record {
   height-size = range-size {a = natAbs lowestStart} (r .«start_height») (omega arith) (s .start-low) (s .start-high);
   grade-size = range-size {a = greatestGrade} (r .«first_grade») (omega arith) (s .grade-low) (s .grade-high);

@@ -11,12 +11,12 @@ use Rattle.heights.specs.declared.Walk.{Walk}
 use Rattle.heights.specs.Profile.{straight, onCurve, endHeight, exactFrom}
 
 -- from a start height in its range, each metre leads at most the greatest grade up or down
-pub record Near (at : Walk) : Type 0 where
+pub record WalkInRange (at : Walk) : Type 0 where
   pub height-size : natAbs (at .height) ≤ natAbs highestStart + greatestGrade * at .station
   pub grade-size : natAbs (at .grade) ≤ greatestGrade
 
 -- a curve whose grade out and length are in their ranges
-pub record Mild (c : Curve) : Type 0 where
+pub record CurveInRange (c : Curve) : Type 0 where
   pub grade-size : natAbs (c .«grade_out») ≤ greatestGrade
   pub short : c .length ≤ greatestCurve
 

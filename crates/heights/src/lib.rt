@@ -8,7 +8,7 @@ ghost use Rattle.whole.specs.Floor.{floor};
 ghost use Rattle.terms.specs.Limits.{greatestRoad};
 ghost use Rattle.road.specs.Road.{begin, end, curvesVerdict, roadVerdict};
 ghost use Rattle.heights.specs.Profile.{straight, onCurve, storedHeight};
-ghost use Rattle.heights.specs.Walk.{Near, Mild, heightAlong, heightOver, exactAhead, along, over, past};
+ghost use Rattle.heights.specs.Walk.{WalkInRange, CurveInRange, heightAlong, heightOver, exactAhead, along, over, past};
 ghost use Rattle.heights.specs.Heights.{heightsAnswer, heightsList};
 use road::Curve;
 use road::Road;
@@ -24,7 +24,7 @@ struct Walk {
 
 // The height `d` metres on along the straight.
 fn on_straight(at: Walk, d: u32) -> i32
-    requires { ⌜ Near at × (at .station + d ≤ greatestRoad) ⌝ }
+    requires { ⌜ WalkInRange at × (at .station + d ≤ greatestRoad) ⌝ }
     ensures { λ r. ⌜ r ≡ straight (at .height) (at .grade) d ⌝ }
 {
     at.height + at.grade as i32 * d as i32
@@ -32,7 +32,7 @@ fn on_straight(at: Walk, d: u32) -> i32
 
 // The height `d` metres on along a curve that begins here, rounded down.
 fn on_curve(at: Walk, c: Curve, d: u32) -> i32
-    requires { ⌜ Near at × Mild c × (0 < d) × (d ≤ c .length) × (at .station + d ≤ greatestRoad) ⌝ }
+    requires { ⌜ WalkInRange at × CurveInRange c × (0 < d) × (d ≤ c .length) × (at .station + d ≤ greatestRoad) ⌝ }
     ensures { λ r. ⌜ r ≡ floor (onCurve (at .height) (at .grade) (c .«grade_out») (c .length) d) ⌝ }
 {
     let x = d as i64;
@@ -43,7 +43,7 @@ fn on_curve(at: Walk, c: Curve, d: u32) -> i32
 
 // Fills the stations after this one up to `to`, along the straight.
 fn fill_straight(at: Walk, to: u32, list: &mut [i32])
-    requires { ⌜ Near at × (at .station ≤ to) × (to ≤ greatestRoad) × (to < length (now list)) ⌝ }
+    requires { ⌜ WalkInRange at × (at .station ≤ to) × (to ≤ greatestRoad) × (to < length (now list)) ⌝ }
     ensures { λ _. ⌜ now (list .exit) ≡ filled (heightAlong at) (at .station + 1) (to - at .station) (now (list .entry)) ⌝ }
 {
     let from = at.station + 1;
@@ -57,7 +57,7 @@ fn fill_straight(at: Walk, to: u32, list: &mut [i32])
 
 // Fills the stations after this one up to the end of a curve that begins here.
 fn fill_curve(at: Walk, c: Curve, list: &mut [i32])
-    requires { ⌜ Near at × Mild c × (at .station + c .length ≤ greatestRoad) × (at .station + c .length < length (now list)) ⌝ }
+    requires { ⌜ WalkInRange at × CurveInRange c × (at .station + c .length ≤ greatestRoad) × (at .station + c .length < length (now list)) ⌝ }
     ensures { λ _. ⌜ now (list .exit) ≡ filled (heightOver at c) (at .station + 1) (c .length) (now (list .entry)) ⌝ }
 {
     let first = at.station + 1;
@@ -71,7 +71,7 @@ fn fill_curve(at: Walk, c: Curve, list: &mut [i32])
 
 // The walk at a station further on along the straight.
 fn walk_along(at: Walk, to: u32) -> Walk
-    requires { ⌜ Near at × (at .station ≤ to) × (to ≤ greatestRoad) ⌝ }
+    requires { ⌜ WalkInRange at × (at .station ≤ to) × (to ≤ greatestRoad) ⌝ }
     ensures { λ r. ⌜ r ≡ along at to ⌝ }
 {
     Walk {
@@ -83,7 +83,7 @@ fn walk_along(at: Walk, to: u32) -> Walk
 
 // The walk at the end of a curve that begins here.
 fn walk_over(at: Walk, c: Curve) -> Walk
-    requires { ⌜ Near at × Mild c × (end c ≤ greatestRoad) × (at .station ≤ greatestRoad) ⌝ }
+    requires { ⌜ WalkInRange at × CurveInRange c × (end c ≤ greatestRoad) × (at .station ≤ greatestRoad) ⌝ }
     ensures { λ r. ⌜ r ≡ over at c ⌝ }
 {
     let half = c.length / 2;
@@ -96,7 +96,7 @@ fn walk_over(at: Walk, c: Curve) -> Walk
 
 // Fills the stations after this one up to the end of the next curve, and answers the walk there.
 fn past_curve(at: Walk, c: Curve, list: &mut [i32]) -> Walk
-    requires { ⌜ Near at × (curvesVerdict greatestRoad (at .station) (c ∷ []) ≡ Verdict.Accepted) × (end c < length (now list)) ⌝ }
+    requires { ⌜ WalkInRange at × (curvesVerdict greatestRoad (at .station) (c ∷ []) ≡ Verdict.Accepted) × (end c < length (now list)) ⌝ }
     ensures { λ r. ⌜ r ≡ past at c ⌝ }
     ensures { λ _. ⌜ now (list .exit) ≡ filled (λ x. floor (exactAhead at (c ∷ []) x)) (at .station + 1) (end c - at .station) (now (list .entry)) ⌝ }
 {

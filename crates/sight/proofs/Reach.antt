@@ -8,7 +8,7 @@ use native.Mathlib.Omega.{arith}
 use lib.Dec.{T}
 use lib.IntN.{ℤ}
 use lib.ListN.{length}
-use Rattle.sight.specs.Sight.{at, seen, reach, sightFrom, availableSight}
+use Rattle.sight.specs.Sight.{heightAt, seen, reach, sightFrom, availableSight}
 
 -- ---- reach, by what holds of it
 -- P holds of each t from 1 to s, and s is the limit or P fails of the next t
@@ -72,7 +72,7 @@ sight-mono i last far p q f =
 module _ (list : List ℤ) (i e o : ℕ) where
   pub sight-le-far : (far : ℕ) → availableSight list i e o far ≤ far
   unfolding availableSight sightFrom
-  sight-le-far far = omega (arith, reach-le (λ t. seen (at list) e o i (i + t)) (min far (length list - 1 - i)))
+  sight-le-far far = omega (arith, reach-le (λ t. seen (heightAt list) e o i (i + t)) (min far (length list - 1 - i)))
 
   -- sight up to a nearer distance is the lesser of that and the sight up to a farther one
   pub sight-min : (a b : ℕ) → a ≤ b → availableSight list i e o a ≡ min a (availableSight list i e o b)
@@ -80,4 +80,4 @@ module _ (list : List ℤ) (i e o : ℕ) where
   sight-min a b l =
       let n = length list - 1 - i in
       let nearer : min a n ≡ min a (min b n) = omega arith in
-      rw nearer (reach-min (λ t. seen (at list) e o i (i + t)) a (min b n))
+      rw nearer (reach-min (λ t. seen (heightAt list) e o i (i + t)) a (min b n))

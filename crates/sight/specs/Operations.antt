@@ -5,7 +5,7 @@ use mathlib.Core.List.{List}
 use lib.Dec.{ltb, leb}
 use lib.IntN.{ℤ}
 use lib.ListN.{length}
-use Rattle.terms.specs.Answers.{outside, listOutside, heightsOutside, refuse, written}
+use Rattle.terms.specs.Answers.{outside, listOutside, eyeOrObjectOutside, refuse, written}
 use Rattle.terms.specs.Limits.{greatestFarthest}
 use Rattle.terms.specs.Refusals.{listRefused, stationRefused, heightRefused, farthestRefused, roomRefused}
 use Rattle.terms.specs.declared.Answer.{Answer}
@@ -17,7 +17,7 @@ unfoldable pub sightAnswer : List ℤ → ℕ → ℕ → ℕ → ℕ → Answer
 sightAnswer list i e o far =
     refuse (listOutside (length list)) listRefused
     (refuse (leb (length list) i) stationRefused
-    (refuse (heightsOutside e o) heightRefused
+    (refuse (eyeOrObjectOutside e o) heightRefused
     (refuse (outside 1 greatestFarthest far) farthestRefused
     (Number (availableSight list i e o far)))))
 
@@ -25,7 +25,7 @@ sightAnswer list i e o far =
 unfoldable pub profileAnswer : List ℤ → ℕ → ℕ → ℕ → List ℕ → Answer
 profileAnswer list e o far sights =
     refuse (listOutside (length list)) listRefused
-    (refuse (heightsOutside e o) heightRefused
+    (refuse (eyeOrObjectOutside e o) heightRefused
     (refuse (outside 1 greatestFarthest far) farthestRefused
     (refuse (ltb (length sights) (length list)) roomRefused
     (Number (length list)))))

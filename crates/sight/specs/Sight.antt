@@ -8,8 +8,8 @@ use lib.ListN.{length, getD}
 use lib.Signed.{leZ}
 
 -- the height at a station of a list
-abbrev pub at : List ℤ → ℕ → ℤ
-at list k = getD list k (pos 0)
+abbrev pub heightAt : List ℤ → ℕ → ℤ
+heightAt list k = getD list k (pos 0)
 
 -- station k lets the line pass from the eye, e above station i, to the object, o above station j:
 -- (height i + e)(j − k) + (height j + o)(k − i) ≥ (height k)(j − i); touching the road counts as passing
@@ -42,4 +42,4 @@ sightFrom i last far seenAt = reach (λ t. seenAt (i + t)) (min far (last - i))
 
 -- the available sight from station i, over a list of the heights of all stations
 unfoldable pub availableSight : List ℤ → ℕ → ℕ → ℕ → ℕ → ℕ
-availableSight list i e o far = sightFrom i (length list - 1) far (seen (at list) e o i)
+availableSight list i e o far = sightFrom i (length list - 1) far (seen (heightAt list) e o i)

@@ -4,7 +4,7 @@ ghost use Prim.Native.Nat.{_+_, _-_, _<_, _≤_};
 ghost use lib.ListN.{length};
 ghost use Rattle.terms.specs.Limits.{greatestFarthest};
 ghost use Rattle.whole.specs.Fill.{filled};
-ghost use Rattle.sight.specs.Sight.{at, seen, reach, availableSight};
+ghost use Rattle.sight.specs.Sight.{heightAt, seen, reach, availableSight};
 ghost use Rattle.sight.specs.Operations.{sightAnswer, profileAnswer, profileList};
 use terms::Answer;
 
@@ -16,7 +16,7 @@ use terms::Answer;
 // by products, `road / next` with `rise / run`.
 fn search_sight(heights: &[i32], i: usize, e: u32, o: u32, end: usize) -> usize
     requires { ⌜ (1 < end) × (end ≤ greatestFarthest + 1) × (i + end ≤ length (now heights)) ⌝ }
-    ensures { λ r. ⌜ r ≡ reach (λ t. seen (at (now (heights .entry))) e o i (i + t)) (end - 1) ⌝ }
+    ensures { λ r. ⌜ r ≡ reach (λ t. seen (heightAt (now (heights .entry))) e o i (i + t)) (end - 1) ⌝ }
 {
     let eye = heights[i] as i64 + e as i64;
     let object = o as i64;
@@ -67,7 +67,7 @@ pub fn sight(heights: &[i32], station: u32, eye: u32, object: u32, farthest: u32
     if heights.len() <= i {
         return Answer::Refused(terms::STATION_REFUSED);
     }
-    if terms::heights_outside(eye, object) {
+    if terms::eye_or_object_outside(eye, object) {
         return Answer::Refused(terms::HEIGHT_REFUSED);
     }
     if terms::outside(1, terms::GREATEST_FARTHEST, farthest) {
@@ -94,7 +94,7 @@ pub fn profile(heights: &[i32], eye: u32, object: u32, farthest: u32, sights: &m
     if terms::list_outside(heights.len()) {
         return Answer::Refused(terms::LIST_REFUSED);
     }
-    if terms::heights_outside(eye, object) {
+    if terms::eye_or_object_outside(eye, object) {
         return Answer::Refused(terms::HEIGHT_REFUSED);
     }
     if terms::outside(1, terms::GREATEST_FARTHEST, farthest) {

@@ -15,7 +15,7 @@ use lib.Seq.{length-take-le}
 use lib.Signed.{_≤ℤ_, ltZ, ltZ-yes, ltZ-no, clashℤ}
 use Rattle.whole.specs.Fill.{filled}
 use Rattle.whole.proofs.Fill.{filled-length, filled-take, filled-whole}
-use Rattle.terms.specs.Answers.{outside, outsideℤ, heightsOutside, refuse, roomFor, written, fault, firstFault, unless, valueOrZero, signed}
+use Rattle.terms.specs.Answers.{outside, outsideℤ, eyeOrObjectOutside, refuse, roomFor, written, fault, firstFault, unless, valueOrZero, signed}
 use Rattle.terms.specs.Limits.{greatestHeight}
 use Rattle.terms.specs.Refusals.{roomRefused}
 use Rattle.terms.specs.declared.Answer.{Answer}
@@ -143,13 +143,13 @@ not-outside-in low high x e = inside low high x (subst (λ (t : Bool). T (not t)
 
 -- of both heights
 pub heights-in :
-    (e o : ℕ) → heightsOutside e o ≡ false → ((1 ≤ e) × (e ≤ greatestHeight)) × ((1 ≤ o) × (o ≤ greatestHeight))
+    (e o : ℕ) → eyeOrObjectOutside e o ≡ false → ((1 ≤ e) × (e ≤ greatestHeight)) × ((1 ≤ o) × (o ≤ greatestHeight))
 heights-in e o p =
     let n = or-no (outside 1 greatestHeight e) (outside 1 greatestHeight o) (subst (λ (t : Bool). T (not t)) (sym p) tt) in
     (inside 1 greatestHeight e (n .0), inside 1 greatestHeight o (n .1))
 
 pub heights-not-outside :
-    (e o : ℕ) → (1 ≤ e) × (e ≤ greatestHeight) → (1 ≤ o) × (o ≤ greatestHeight) → heightsOutside e o ≡ false
+    (e o : ℕ) → (1 ≤ e) × (e ≤ greatestHeight) → (1 ≤ o) × (o ≤ greatestHeight) → eyeOrObjectOutside e o ≡ false
 heights-not-outside e o p q = simp (not-outside 1 greatestHeight e p, not-outside 1 greatestHeight o q)
 
 pub inside-ℤ : (low high z : ℤ) → T (not (outsideℤ low high z)) → (low ≤ℤ z) × (z ≤ℤ high)

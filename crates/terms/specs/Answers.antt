@@ -23,8 +23,8 @@ abbrev pub listOutside : ℕ → Bool
 listOutside n = outside 1 greatestList n
 
 -- the height of the eye or that of the object is not 1 to 50,000
-abbrev pub heightsOutside : ℕ → ℕ → Bool
-heightsOutside e o = outside 1 greatestHeight e || outside 1 greatestHeight o
+abbrev pub eyeOrObjectOutside : ℕ → ℕ → Bool
+eyeOrObjectOutside e o = outside 1 greatestHeight e || outside 1 greatestHeight o
 
 -- z is not low to high
 abbrev pub outsideℤ : ℤ → ℤ → ℤ → Bool

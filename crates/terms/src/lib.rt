@@ -2,7 +2,7 @@
 // as the code names them. specs/Limits.antt and specs/Refusals.antt give the definitions the same numbers under the same names.
 
 ghost use mathlib.Core.Path.{_≡_};
-ghost use Rattle.terms.specs.Answers.{outside, listOutside, heightsOutside, valueOrZero, signed};
+ghost use Rattle.terms.specs.Answers.{outside, listOutside, eyeOrObjectOutside, valueOrZero, signed};
 
 // The value, or the number of the refusal.
 pub enum Answer {
@@ -129,8 +129,8 @@ pub fn list_outside(length: usize) -> bool
 }
 
 // Whether the height of the eye or that of the object is out of its range.
-pub fn heights_outside(eye: u32, object: u32) -> bool
-    ensures { λ r. ⌜ r ≡ heightsOutside eye object ⌝ }
+pub fn eye_or_object_outside(eye: u32, object: u32) -> bool
+    ensures { λ r. ⌜ r ≡ eyeOrObjectOutside eye object ⌝ }
 {
     outside(1, GREATEST_HEIGHT, eye) | outside(1, GREATEST_HEIGHT, object)
 }

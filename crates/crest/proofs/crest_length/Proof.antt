@@ -27,8 +27,8 @@ returns-2 c =
     let d = c .before .before in
     simp (sym (d .before .outside .ensures) ∙ d .if1 .left, sym (c .before .outside2 .ensures) ∙ c .if2 .taken)
 
-heights-outside-requires : tie.Need-heights-outside-requires
-heights-outside-requires c κs = search needs
+eye-or-object-outside-requires : tie.Need-eye-or-object-outside-requires
+eye-or-object-outside-requires c κs = search needs
 
 returns-3 : tie.Need-returns-3
 unfolding crestLength
@@ -38,7 +38,7 @@ returns-3 c =
     simp (
       sym (d .before .outside .ensures) ∙ d .if1 .left,
       sym (s .before .outside2 .ensures) ∙ s .if2 .left,
-      sym (c .before .heights-outside .ensures) ∙ c .if3 .taken,
+      sym (c .before .eye-or-object-outside .ensures) ∙ c .if3 .taken,
     )
 
 -- past the three tests all numbers are in their ranges
@@ -49,7 +49,7 @@ in-range c =
     let s = c .before .before in
     let d = s .before .before in
     let x = d .before .before .args in
-    let h = heights-in (x .eye) (x .object) (sym (c .before .heights-outside .ensures) ∙ c .if3 .left) in
+    let h = heights-in (x .eye) (x .object) (sym (c .before .eye-or-object-outside .ensures) ∙ c .if3 .left) in
     record {
       drop = not-outside-in 1 greatestDrop _ (sym (d .before .outside .ensures) ∙ d .if1 .left);
       sight = not-outside-in 1 greatestSightDistance _ (sym (s .before .outside2 .ensures) ∙ s .if2 .left);
@@ -83,7 +83,7 @@ crest-length-spec =
     returns
     outside-requires-2
     returns-2
-    heights-outside-requires
+    eye-or-object-outside-requires
     returns-3
     add-least-even
     mul-least-even

@@ -9,7 +9,7 @@ use Rattle.terms.specs.Limits.{greatestRoad}
 use Rattle.road.specs.Road.{begin, end}
 use Rattle.road.proofs.Accepted.{SoundCurve, accepted-curve}
 use Rattle.heights.specs.declared.Walk.{Walk}
-use Rattle.heights.specs.Walk.{Near, Mild, over}
+use Rattle.heights.specs.Walk.{WalkInRange, CurveInRange, over}
 use Rattle.heights.proofs.Along.{sound-mild, near-along, filled-past}
 use Rattle.heights.proofs.past_curve.Statement.{statement}
 use Rattle.heights.proofs.past_curve.Tie as tie
@@ -19,7 +19,7 @@ module _ (s : tie.Start) where
   sound : SoundCurve greatestRoad (s .args .at .station) (s .args .c)
   sound = accepted-curve greatestRoad (s .args .at .station) (s .args .c) [] (s .pre .1) .0
 
-  mild : Mild (s .args .c)
+  mild : CurveInRange (s .args .c)
   mild = sound-mild sound
 
   run : begin (s .args .c) + s .args .c .length ≡ end (s .args .c)
@@ -49,7 +49,7 @@ module _ (c : tie.After-walk-along) where
   abbrev start : tie.Start
   start = c .before .before .before .before .before .before
 
-  foot-near : Near (c .walk-along .result)
+  foot-near : WalkInRange (c .walk-along .result)
   foot-near = rw (c .walk-along .ensures) (near-along _ _ (start .pre .0) (sound start .ordered))
 
   foot-at : c .walk-along .result .station ≡ begin (start .args .c)

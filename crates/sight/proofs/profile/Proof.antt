@@ -39,15 +39,15 @@ returns : tie.Need-returns
 unfolding profileAnswer
 returns c = refused _ _ _ _ _ _ (simp (sym (c .before .list-outside .ensures) ∙ c .if1 .taken))
 
-heights-outside-requires : tie.Need-heights-outside-requires
-heights-outside-requires c κs = search needs
+eye-or-object-outside-requires : tie.Need-eye-or-object-outside-requires
+eye-or-object-outside-requires c κs = search needs
 
 returns-2 : tie.Need-returns-2
 unfolding profileAnswer
 returns-2 c =
     let l = c .before .before in
     refused _ _ _ _ _ _
-    (simp (sym (l .before .list-outside .ensures) ∙ l .if1 .left, sym (c .before .heights-outside .ensures) ∙ c .if2 .taken))
+    (simp (sym (l .before .list-outside .ensures) ∙ l .if1 .left, sym (c .before .eye-or-object-outside .ensures) ∙ c .if2 .taken))
 
 outside-requires : tie.Need-outside-requires
 outside-requires c κs = search needs
@@ -60,7 +60,7 @@ returns-3 c =
     refused _ _ _ _ _ _
     (simp (
       sym (l .before .list-outside .ensures) ∙ l .if1 .left,
-      sym (h .before .heights-outside .ensures) ∙ h .if2 .left,
+      sym (h .before .eye-or-object-outside .ensures) ∙ h .if2 .left,
       sym (c .before .outside .ensures) ∙ c .if3 .taken,
     ))
 
@@ -73,7 +73,7 @@ returns-4 c =
     refused _ _ _ _ _ _
     (simp (
       sym (l .before .list-outside .ensures) ∙ l .if1 .left,
-      sym (h .before .heights-outside .ensures) ∙ h .if2 .left,
+      sym (h .before .eye-or-object-outside .ensures) ∙ h .if2 .left,
       sym (f .before .outside .ensures) ∙ f .if3 .left,
       lt-ltb _ _ (c .if4 .taken),
     ))
@@ -102,7 +102,7 @@ returns-5 c =
     answered _ _ _ _ _ _ _
     (simp (
       sym (l .before .list-outside .ensures) ∙ l .if1 .left,
-      sym (h .before .heights-outside .ensures) ∙ h .if2 .left,
+      sym (h .before .eye-or-object-outside .ensures) ∙ h .if2 .left,
       sym (f .before .outside .ensures) ∙ f .if3 .left,
       le-ltb _ _ (r .if4 .left),
     ))
@@ -114,7 +114,7 @@ profile-spec =
     (tie.spec
     list-outside-requires
     returns
-    heights-outside-requires
+    eye-or-object-outside-requires
     returns-2
     outside-requires
     returns-3

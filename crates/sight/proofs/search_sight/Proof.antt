@@ -13,16 +13,16 @@ use mir.Val.{SFits, toZ}
 use Rattle.whole.proofs.Range.{Reads, fitB, natB, addB, negB, asB, countB, countR, fits-by, same-by, sizes, reads}
 use Rattle.whole.proofs.Machine.{le-yes, le-no, lt-yes, lt-no}
 use Rattle.terms.specs.Limits.{greatestFarthest}
-use Rattle.sight.specs.Sight.{at}
+use Rattle.sight.specs.Sight.{heightAt}
 use Rattle.sight.proofs.Steepest.{rise, Passed, passed-one, passed-steep, passed-seen, passed-hidden, passed-all}
 use Rattle.sight.proofs.search_sight.Statement.{statement}
 use Rattle.sight.proofs.search_sight.Tie as tie
 
 record Searched (list : List ℤ) (i e o end bits run next : ℕ) : Type 0 where
   within : next ≤ end
-  fits : SFits w32 (at list (i + run))
-  rises : toZ w64 bits ≡ rise (at list) e i run
-  passed : Passed (at list) e o i run next
+  fits : SFits w32 (heightAt list (i + run))
+  rises : toZ w64 bits ≡ rise (heightAt list) e i run
+  passed : Passed (heightAt list) e o i run next
 
 abbrev Inv-search : tie.InvT-search
 Inv-search heights i e o end eye object rise₀ run₀ next₀ rise run next = Searched heights i e o end rise run next
@@ -37,8 +37,8 @@ module _ (c : tie.After-rise Inv-search μ-search) where
   start = c .before .before
 
   record First : Type 0 where
-    here : SFits w32 (at (start .args .heights .now) (start .args .i))
-    first : SFits w32 (at (start .args .heights .now) (start .args .i + 1))
+    here : SFits w32 (heightAt (start .args .heights .now) (start .args .i))
+    first : SFits w32 (heightAt (start .args .heights .now) (start .args .i + 1))
     e : Reads (toZ w64 (start .args .e)) (pos (start .args .e))
     o : Reads (toZ w64 (start .args .o)) (pos (start .args .o))
 
@@ -63,11 +63,11 @@ module _ (c : tie.After-road Inv-search μ-search) where
 
   record Next : Type 0 where
     before : First outer
-    there : SFits w32 (at (entry .args .heights .now) (entry .args .i + head .search .next))
+    there : SFits w32 (heightAt (entry .args .heights .now) (entry .args .i + head .search .next))
     next : Reads (toZ w64 (head .search .next)) (pos (head .search .next))
     run : Reads (toZ w64 (head .search .run)) (pos (head .search .run))
     rises : let s = entry .args in
-        Reads (toZ w64 (head .search .rise)) (rise (at (s .heights .now)) (s .e) (s .i) (head .search .run))
+        Reads (toZ w64 (head .search .rise)) (rise (heightAt (s .heights .now)) (s .e) (s .i) (head .search .run))
 
   abbrev at-next : Next
   at-next =

@@ -25,8 +25,8 @@ returns-2 c =
     let l = c .before in
     simp (sym (l .before .list-outside .ensures) ∙ l .if1 .left, le-leb _ _ (c .if2 .taken))
 
-heights-outside-requires : tie.Need-heights-outside-requires
-heights-outside-requires c κs = search needs
+eye-or-object-outside-requires : tie.Need-eye-or-object-outside-requires
+eye-or-object-outside-requires c κs = search needs
 
 returns-3 : tie.Need-returns-3
 unfolding sightAnswer
@@ -36,7 +36,7 @@ returns-3 c =
     simp (
       sym (l .before .list-outside .ensures) ∙ l .if1 .left,
       lt-leb _ _ (s .if2 .left),
-      sym (c .before .heights-outside .ensures) ∙ c .if3 .taken,
+      sym (c .before .eye-or-object-outside .ensures) ∙ c .if3 .taken,
     )
 
 outside-requires : tie.Need-outside-requires
@@ -51,7 +51,7 @@ returns-4 c =
     simp (
       sym (l .before .list-outside .ensures) ∙ l .if1 .left,
       lt-leb _ _ (s .if2 .left),
-      sym (h .before .heights-outside .ensures) ∙ h .if3 .left,
+      sym (h .before .eye-or-object-outside .ensures) ∙ h .if3 .left,
       sym (c .before .outside .ensures) ∙ c .if4 .taken,
     )
 
@@ -78,7 +78,7 @@ returns-5 c =
     simp (
       sym (l .before .list-outside .ensures) ∙ l .if1 .left,
       lt-leb _ _ (s .if2 .left),
-      sym (h .before .heights-outside .ensures) ∙ h .if3 .left,
+      sym (h .before .eye-or-object-outside .ensures) ∙ h .if3 .left,
       sym (f .before .outside .ensures) ∙ f .if4 .left,
     )
     (ap Number (c .available .ensures))
@@ -90,7 +90,7 @@ sight-spec =
     list-outside-requires
     returns
     returns-2
-    heights-outside-requires
+    eye-or-object-outside-requires
     returns-3
     outside-requires
     returns-4
