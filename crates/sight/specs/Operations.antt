@@ -2,12 +2,12 @@
 -- end.
 use Prim.Native.Nat.{ℕ}
 use mathlib.Core.List.{List}
-use lib.Dec.{ltb, leb}
+use lib.Dec.{leb}
 use lib.IntN.{ℤ}
 use lib.ListN.{length}
-use Rattle.terms.specs.Answers.{outside, listOutside, eyeOrObjectOutside, refuse, written}
+use Rattle.terms.specs.Answers.{outside, listOutside, eyeOrObjectOutside, refuse, roomFor, written}
 use Rattle.terms.specs.Limits.{greatestFarthest}
-use Rattle.terms.specs.Refusals.{listRefused, stationRefused, heightRefused, farthestRefused, roomRefused}
+use Rattle.terms.specs.Refusals.{listRefused, stationRefused, heightRefused, farthestRefused}
 use Rattle.terms.specs.declared.Answer.{Answer}
 use Rattle.terms.specs.declared.Answer.the-variants.{Number}
 use Rattle.sight.specs.Sight.{availableSight}
@@ -27,8 +27,7 @@ profileAnswer list e o far sights =
     refuse (listOutside (length list)) listRefused
     (refuse (eyeOrObjectOutside e o) heightRefused
     (refuse (outside 1 greatestFarthest far) farthestRefused
-    (refuse (ltb (length sights) (length list)) roomRefused
-    (Number (length list)))))
+    (roomFor (length list) sights)))
 
 -- each station's place holds its own sight, later places stay; where it is refused all stay
 unfoldable pub profileList : List ℤ → ℕ → ℕ → ℕ → List ℕ → List ℕ
