@@ -33,7 +33,6 @@ extern "C" {
         list_length: usize,
     ) -> i64;
     fn probe_zones(marks: *const u8, marks_length: usize, bit: u32, list: *mut u16, list_length: usize) -> i64;
-    fn probe_listing(file: *const u8, file_length: usize, text: *mut u8, text_length: usize) -> i64;
 }
 
 /// An answer is a signed number, and a refusal is minus its number. These are of 64 bits; each fits 32.
@@ -83,10 +82,4 @@ pub fn marks(speed: u32, purpose: u32, heights: &[i32], list: &mut [u8]) -> Answ
 pub fn zones(marks: &[u8], bit: u32, list: &mut [u16]) -> Answer {
     // SAFETY: both pointers come with their own lengths, and the two do not overlap.
     answer(unsafe { probe_zones(marks.as_ptr(), marks.len(), bit, list.as_mut_ptr(), list.len()) })
-}
-
-/// Writes the listing of a road file: how many bytes were written.
-pub fn listing(file: &[u8], text: &mut [u8]) -> Answer {
-    // SAFETY: both pointers come with their own lengths, and the two do not overlap.
-    answer(unsafe { probe_listing(file.as_ptr(), file.len(), text.as_mut_ptr(), text.len()) })
 }

@@ -1,35 +1,16 @@
-//! Document 01, "The lister": the program, from standard input to standard output, and the function that writes its
-//! text.
+//! Document 01, "The lister": the program, from standard input to standard output.
 
-use sight_tests::lent;
-use sight_tests::probe;
 use sight_tests::program;
 use sight_tests::random::Random;
 use sight_tests::reference::file::{bytes, read};
 use sight_tests::reference::listing::listing;
 use sight_tests::reference::road::Road;
-use sight_tests::reference::Answer;
 use sight_tests::roads::{self, EXAMPLE};
 
-/// The proved function writes the text into a buffer of `places` bytes, if there is room, and the rest stays.
-fn compare_written(file: &[u8], text: &str, places: usize) -> Answer {
-    let proved = |buffer: &mut [u8]| probe::listing(file, buffer);
-    let second = |buffer: &mut [u8]| -> Answer {
-        buffer.get_mut(..text.len()).ok_or(14_u32)?.copy_from_slice(text.as_bytes());
-        Ok(text.len() as u32)
-    };
-    lent::compare(&vec![0xA5; places], proved, second, format_args!("{file:02X?}")).0
-}
-
-/// Compares what the program prints, and what the proved function writes into buffers that are longer, just long
-/// enough, a byte too short and empty. Answers the text.
+/// Compares what the program prints with the second calculation. Answers the text.
 fn compare(file: &[u8]) -> String {
     let text = program::output("lister", file);
     assert_eq!(text, listing(file), "{file:02X?}");
-    let (needed, all) = (text.len(), Ok(text.len() as u32));
-    for (places, answer) in [(needed + 3, all), (needed, all), (needed - 1, Err(14)), (0, Err(14))] {
-        assert_eq!(compare_written(file, &text, places), answer);
-    }
     text
 }
 

@@ -5,7 +5,6 @@ ghost use Rattle.terms.specs.Answers.{signed};
 ghost use Rattle.sight.specs.Operations.{sightAnswer, profileAnswer, profileList};
 ghost use Rattle.zones.specs.Zones.{zonesAnswer, zonesList};
 ghost use Rattle.marks.specs.Marks.{marksAnswer, marksList};
-ghost use Rattle.listing.specs.Listing.{listAnswer, listBuffer};
 ghost use Rattle.probe.specs.Probe.{rewriteAnswer, rewriteList, fileHeightsAnswer, fileHeightsList};
 use terms::Answer;
 use terms::Verdict;
@@ -79,12 +78,4 @@ pub extern "C" fn probe_zones(marks: &[u8], bit: u32, list: &mut [u16]) -> i64
     ensures list { λ _. ⌜ now (list .exit) ≡ zonesList (now (marks .entry)) bit (now (list .entry)) ⌝ }
 {
     terms::signed_answer(zones::zones(marks, bit, list))
-}
-
-#[no_mangle]
-pub extern "C" fn probe_listing(file: &[u8], text: &mut [u8]) -> i64
-    ensures answer { λ r. ⌜ r ≡ signed (listAnswer (now (file .entry)) (now (text .entry))) ⌝ }
-    ensures list { λ _. ⌜ now (text .exit) ≡ listBuffer (now (file .entry)) (now (text .entry)) ⌝ }
-{
-    terms::signed_answer(listing::list_road_file(file, text))
 }
