@@ -18,8 +18,8 @@ use Rattle.terms.specs.Limits.{lowestStart, greatestGrade, greatestRoad}
 use Rattle.terms.specs.declared.Verdict.the-variants.{Accepted}
 use Rattle.road.specs.declared.Curve.{Curve}
 use Rattle.road.specs.declared.Road.{Road}
-use Rattle.road.specs.Road.{begin, end, curvesOf, curvesVerdict}
-use Rattle.road.proofs.Accepted.{SoundCurve, SoundRoad, accepted-curve, sound-curve}
+use Rattle.road.specs.Road.{begin, end, curvesOf, curveVerdict, curvesVerdict}
+use Rattle.road.proofs.Accepted.{SoundCurve, SoundRoad, accepted-curves, sound-curve}
 use Rattle.heights.specs.declared.Walk.{Walk}
 use Rattle.heights.specs.Profile.{straight, exactFrom, exactHeight, storedHeight}
 use Rattle.heights.specs.Walk.{WalkInRange, heightAlong, exactAhead, past}
@@ -75,14 +75,13 @@ walked-none r first s = record {
 module _ (r : Road) (i : ℕ) (at : Walk) (c : Curve) (first list : List ℤ) (w : Walked r i at first list)
     (next : drop i (curvesOf r) ≡ c ∷ drop (i + 1) (curvesOf r)) where
   next-accepted : SoundCurve (r .length) (at .station) c × (curvesVerdict (r .length) (end c) (drop (i + 1) (curvesOf r)) ≡ Accepted)
-  next-accepted = accepted-curve (r .length) (at .station) c _ (rw next at (w .accepted))
+  next-accepted = accepted-curves (r .length) (at .station) c _ (rw next at (w .accepted))
 
   -- it is without a fault on the longest road too
-  pub next-sound : r .length ≤ greatestRoad → curvesVerdict greatestRoad (at .station) (c ∷ []) ≡ Accepted
-  unfolding curvesVerdict
+  pub next-sound : r .length ≤ greatestRoad → curveVerdict greatestRoad (at .station) c ≡ Accepted
   next-sound l =
       let s = next-accepted .0 in
-      sound-curve greatestRoad (at .station) c [] record {
+      sound-curve greatestRoad (at .station) c record {
         grade-low = s .grade-low;
         grade-high = s .grade-high;
         even = s .even;
@@ -90,7 +89,7 @@ module _ (r : Road) (i : ℕ) (at : Walk) (c : Curve) (first list : List ℤ) (w
         from-zero = s .from-zero;
         before-end = omega (arith, s .before-end);
         ordered = s .ordered;
-      } refl
+      }
 
   pub next-on-road : end c ≤ r .length
   next-on-road = next-accepted .0 .before-end

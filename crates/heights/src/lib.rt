@@ -6,7 +6,7 @@ ghost use lib.ListN.{length};
 ghost use Rattle.whole.specs.Fill.{filled};
 ghost use Rattle.whole.specs.Floor.{floor};
 ghost use Rattle.terms.specs.Limits.{greatestRoad};
-ghost use Rattle.road.specs.Road.{begin, end, curvesVerdict, roadVerdict};
+ghost use Rattle.road.specs.Road.{begin, end, curveVerdict, roadVerdict};
 ghost use Rattle.heights.specs.Profile.{straight, onCurve, storedHeight};
 ghost use Rattle.heights.specs.Walk.{WalkInRange, CurveInRange, heightAlong, heightOver, exactAhead, along, over, past};
 ghost use Rattle.heights.specs.Heights.{heightsAnswer, heightsList};
@@ -96,7 +96,7 @@ fn walk_over(at: Walk, c: Curve) -> Walk
 
 // Fills the stations after this one up to the end of the next curve, and answers the walk there.
 fn past_curve(at: Walk, c: Curve, list: &mut [i32]) -> Walk
-    requires { ⌜ WalkInRange at × (curvesVerdict greatestRoad (at .station) (c ∷ []) ≡ Verdict.Accepted) × (end c < length (now list)) ⌝ }
+    requires { ⌜ WalkInRange at × (curveVerdict greatestRoad (at .station) c ≡ Verdict.Accepted) × (end c < length (now list)) ⌝ }
     ensures { λ r. ⌜ r ≡ past at c ⌝ }
     ensures { λ _. ⌜ now (list .exit) ≡ filled (λ x. floor (exactAhead at (c ∷ []) x)) (at .station + 1) (end c - at .station) (now (list .entry)) ⌝ }
 {

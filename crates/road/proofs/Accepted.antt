@@ -29,35 +29,37 @@ pub record SoundCurve (n last : ℕ) (c : Curve) : Type 0 where
   pub before-end : end c ≤ n
   pub ordered : last ≤ begin c
 
-pub accepted-curve : (n last : ℕ) (c : Curve) (cs : List Curve) → curvesVerdict n last (c ∷ cs) ≡ Accepted →
-    SoundCurve n last c × (curvesVerdict n (end c) cs ≡ Accepted)
-unfolding curvesVerdict curveVerdict
-accepted-curve n last c cs e =
-    let both = first-fault-accepted (curveVerdict n last c) _ e in
-    let grade = fault-accepted (gradeOutside (c .«grade_out»)) gradeRefused _ (both .0) in
+pub accepted-curve : (n last : ℕ) (c : Curve) → curveVerdict n last c ≡ Accepted → SoundCurve n last c
+unfolding curveVerdict
+accepted-curve n last c e =
+    let grade = fault-accepted (gradeOutside (c .«grade_out»)) gradeRefused _ e in
     let size = fault-accepted (lengthOutside c) curveLengthRefused _ (grade .1) in
     let place = fault-accepted (placeOutside n c) curvePlaceRefused _ (size .1) in
     let order = fault-accepted (ltb (begin c) last) curveOrderRefused _ (place .1) in
     let g = inside-ℤ (negℤ (pos greatestGrade)) (pos greatestGrade) (c .«grade_out») (grade .0) in
     let s = or-no (not (eqb (c .length % 2) 0)) (ltb greatestCurve (c .length)) (size .0) in
-    let p = or-no (ltb (c .pvi) (half c)) (ltb n (end c)) (place .0) in (
-      record {
-        grade-low = g .0;
-        grade-high = g .1;
-        even = no-difference (c .length % 2) 0 (s .0);
-        short = nltb→le greatestCurve (c .length) (s .1);
-        from-zero = nltb→le (c .pvi) (half c) (p .0);
-        before-end = nltb→le n (end c) (p .1);
-        ordered = nltb→le (begin c) last (order .0);
-      },
-      both .1,
-    )
+    let p = or-no (ltb (c .pvi) (half c)) (ltb n (end c)) (place .0) in
+    record {
+      grade-low = g .0;
+      grade-high = g .1;
+      even = no-difference (c .length % 2) 0 (s .0);
+      short = nltb→le greatestCurve (c .length) (s .1);
+      from-zero = nltb→le (c .pvi) (half c) (p .0);
+      before-end = nltb→le n (end c) (p .1);
+      ordered = nltb→le (begin c) last (order .0);
+    }
 
-pub sound-curve : (n last : ℕ) (c : Curve) (cs : List Curve) → SoundCurve n last c → curvesVerdict n (end c) cs ≡ Accepted →
-    curvesVerdict n last (c ∷ cs) ≡ Accepted
-unfolding curvesVerdict curveVerdict
-sound-curve n last c cs s e =
-    simp (le-ltZ (s .grade-low), le-ltZ (s .grade-high), s .even, le-ltb _ _ (s .short), le-ltb _ _ (s .from-zero), le-ltb _ _ (s .before-end), le-ltb _ _ (s .ordered)) e
+pub sound-curve : (n last : ℕ) (c : Curve) → SoundCurve n last c → curveVerdict n last c ≡ Accepted
+unfolding curveVerdict
+sound-curve n last c s =
+    simp (le-ltZ (s .grade-low), le-ltZ (s .grade-high), s .even, le-ltb _ _ (s .short), le-ltb _ _ (s .from-zero), le-ltb _ _ (s .before-end), le-ltb _ _ (s .ordered))
+
+-- the first of some curves, and those after it
+pub accepted-curves : (n last : ℕ) (c : Curve) (cs : List Curve) → curvesVerdict n last (c ∷ cs) ≡ Accepted →
+    SoundCurve n last c × (curvesVerdict n (end c) cs ≡ Accepted)
+unfolding curvesVerdict
+accepted-curves n last c cs e =
+    let both = first-fault-accepted (curveVerdict n last c) _ e in (accepted-curve n last c (both .0), both .1)
 
 -- ---- a road
 -- every number of the road is in its range, and no curve has a fault

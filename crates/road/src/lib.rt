@@ -1,4 +1,4 @@
-// Document 01, "The road and its heights": a road as a value, and its refusals.
+// Document 01, "The road and its heights" and "Road file": a road as a value, and its refusals.
 ghost use Prim.Native.Nat.{_≤_};
 ghost use mathlib.Core.Path.{_≡_};
 ghost use Rattle.terms.specs.Answers.{firstFault};

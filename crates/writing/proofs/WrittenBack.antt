@@ -19,7 +19,7 @@ use Rattle.terms.specs.declared.Verdict.the-variants.{Accepted}
 use Rattle.road.specs.declared.Curve.{Curve}
 use Rattle.road.specs.declared.Road.{Road}
 use Rattle.road.specs.Road.{end, noCurve, curvesOf, curvesVerdict, roadVerdict}
-use Rattle.road.proofs.Accepted.{accepted-curve, accepted-road}
+use Rattle.road.proofs.Accepted.{accepted-curves, accepted-road}
 use Rattle.file.specs.File.{byteAt, u16At, fileLength, curveAt, roadIn}
 use Rattle.writing.specs.Bytes.{headerBytes, curveBytes, fileBytes, SameRoad, cleared}
 use Rattle.writing.proofs.Bytes.{from-bytes2, from-bytes4, file-curve}
@@ -45,13 +45,13 @@ fits-record : (n last : ℕ) (cs : List Curve) (i : ℕ) → n ≤ greatestRoad 
     FitsRecord (getD cs i noCurve)
 fits-record n last [] i h e l = absurd (omega arith)
 fits-record n last (c ∷ cs) zero h e l =
-    let s = accepted-curve n last c cs e .0 in
+    let s = accepted-curves n last c cs e .0 in
     record {
       pvi = omega (arith, s .before-end);
       size = omega (arith, s .short);
       grade = grade-fits (c .«grade_out») (s .grade-low) (s .grade-high);
     }
-fits-record n last (c ∷ cs) (suc i) h e l = fits-record n (end c) cs i h (accepted-curve n last c cs e .1) (omega arith)
+fits-record n last (c ∷ cs) (suc i) h e l = fits-record n (end c) cs i h (accepted-curves n last c cs e .1) (omega arith)
 
 -- a curve is its three numbers
 curve-is : (c : Curve) (p l : ℕ) (g : ℤ) → p ≡ c .pvi → l ≡ c .length → g ≡ c .«grade_out» →

@@ -2,7 +2,6 @@
 -- profile's, rounded down (`filled-past`).
 use Prim.Native.Nat.{_+_, _≤_}
 use borrow.Author.Needs.{needs}
-use mathlib.Core.List.{[]}
 use mathlib.Core.Path.{_≡_, ap, _∙_}
 use native.Mathlib.Omega.{arith}
 use Rattle.terms.specs.Limits.{greatestRoad}
@@ -17,7 +16,7 @@ use Rattle.heights.proofs.past_curve.Tie as tie
 -- the curve: its begin lies ahead of the walk, and its end on the road
 module _ (s : tie.Start) where
   sound : SoundCurve greatestRoad (s .args .at .station) (s .args .c)
-  sound = accepted-curve greatestRoad (s .args .at .station) (s .args .c) [] (s .pre .1) .0
+  sound = accepted-curve greatestRoad (s .args .at .station) (s .args .c) (s .pre .1)
 
   mild : CurveInRange (s .args .c)
   mild = sound-mild sound
