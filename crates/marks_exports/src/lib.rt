@@ -1,0 +1,22 @@
+// Marks exported for the command vcp and the tests: the marks of heights, and the zones of a bit of marks. An answer is a signed
+// number, and a refusal is minus its number.
+ghost use mathlib.Core.Path.{_≡_};
+ghost use Rattle.terms.specs.Answers.{signed};
+ghost use Rattle.marks.specs.Marks.{marksAnswer, marksList};
+ghost use Rattle.zones.specs.Zones.{zonesAnswer, zonesList};
+
+#[no_mangle]
+pub extern "C" fn vcp_marks(speed: u32, purpose: u32, heights: &[i32], list: &mut [u8]) -> i64
+    ensures answer { λ r. ⌜ r ≡ signed (marksAnswer speed purpose (now (heights .entry)) (now (list .entry))) ⌝ }
+    ensures list { λ _. ⌜ now (list .exit) ≡ marksList speed purpose (now (heights .entry)) (now (list .entry)) ⌝ }
+{
+    terms::signed_answer(marks::marks(speed, purpose, heights, list))
+}
+
+#[no_mangle]
+pub extern "C" fn vcp_zones(marks: &[u8], bit: u32, list: &mut [u16]) -> i64
+    ensures answer { λ r. ⌜ r ≡ signed (zonesAnswer (now (marks .entry)) bit (now (list .entry))) ⌝ }
+    ensures list { λ _. ⌜ now (list .exit) ≡ zonesList (now (marks .entry)) bit (now (list .entry)) ⌝ }
+{
+    terms::signed_answer(zones::zones(marks, bit, list))
+}
