@@ -1,7 +1,5 @@
-// Whole numbers: division that rounds down, the smaller of two, a difference that stops at 0, and in specs/ and proofs/ what the
-// other crates define and prove by them.
+// Whole numbers: division that rounds down, and in specs/ and proofs/ what the other crates define and prove by them.
 ghost use mathlib.Core.Path.{_≡_};
-ghost use Prim.Native.Nat.{_-_, min};
 ghost use Rattle.whole.specs.Floor.{floorDiv};
 
 // `n / d` rounded down, and 0 where `d` is not positive. A negative `n` goes into the division as `-1 - n`, and the
@@ -17,18 +15,4 @@ pub fn floor_div(n: i64, d: i64) -> i64
         return -1 - (-1 - n) / d;
     }
     n / d
-}
-
-// The smaller of two numbers.
-pub fn smaller(a: u64, b: u64) -> u64
-    ensures { λ r. ⌜ r ≡ min a b ⌝ }
-{
-    if a < b { a } else { b }
-}
-
-// `a` less `b`, and 0 where `b` is larger.
-pub fn less(a: u64, b: u64) -> u64
-    ensures { λ r. ⌜ r ≡ a - b ⌝ }
-{
-    if a < b { 0 } else { a - b }
 }
