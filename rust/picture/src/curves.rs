@@ -1,0 +1,61 @@
+//! The curves, above the plot.
+
+use std::fmt::{self, Formatter};
+
+use crate::{Curve, Picture};
+
+/// What the shapes stand for.
+const KEY: &str = r#"<path class="crest" d="M1500 11700Q2500 9700 3500 11700Z"/><text x="4000" y="11650">crest</text>
+<path class="sag" d="M8300 10700Q9300 12700 10300 10700Z"/><text x="10800" y="11650">sag</text>
+<path class="crest" d="M14100 11700L14650 10700L15200 11700Z"/><text x="15700" y="11650">break</text>
+"#;
+
+/// There is room for the numbers of so many curves.
+const ROOM_FOR: i64 = 64;
+
+impl Picture<'_> {
+    /// The curves behind a key of their shapes, each a crest or a sag by the grades before and behind it. One that changes no
+    /// grade is not drawn.
+    pub fn curves(&self, out: &mut Formatter) -> fmt::Result {
+        out.write_str(KEY)?;
+        let mut grade_in = self.profile.first_grade;
+        for curve in self.profile.curves {
+            if curve.grade_out != grade_in {
+                self.pvi(out, curve)?;
+                self.shape(out, curve, curve.grade_out < grade_in)?;
+            }
+            grade_in = curve.grade_out;
+        }
+        Ok(())
+    }
+
+    /// A dotted line from a curve's shape down to the road at its PVI.
+    fn pvi(&self, out: &mut Formatter, curve: &Curve) -> fmt::Result {
+        let Some(&height) = self.profile.heights.get(curve.pvi as usize) else { return Ok(()) };
+        writeln!(out, r#"<path class="pvi" d="M{} 13200V{}"/>"#, self.sheet.x(curve.pvi), self.sheet.y(height))
+    }
+
+    /// A curve from its begin to its end, a filled hump over a crest and an open bowl over a sag; or a break, a triangle
+    /// that stands on its foot at a crest and on its point in a sag.
+    fn shape(&self, out: &mut Formatter, curve: &Curve, crest: bool) -> fmt::Result {
+        let class = if crest { "crest" } else { "sag" };
+        let (pvi, half) = (i64::from(curve.pvi), i64::from(curve.length / 2));
+        let [from, middle, to] = [pvi - half, pvi, pvi + half].map(|station| self.sheet.x(station));
+        if curve.length == 0 {
+            let triangle = if crest { "M-550 0L0-1000L550 0Z" } else { "M-550-1000L0 0L550-1000Z" };
+            writeln!(out, r#"<path class="{class}" d="{triangle}" transform="translate({middle} 13000)"/>"#)
+        } else {
+            let (ends, bend) = if crest { (13_000, 11_000) } else { (12_000, 14_000) };
+            writeln!(out, r#"<path class="{class}" d="M{from} {ends}Q{middle} {bend} {to} {ends}Z"/>"#)
+        }
+    }
+
+    /// The curves' numbers, above them; one that would touch the one before it is left out.
+    pub fn curve_numbers(&self, out: &mut Formatter) -> fmt::Result {
+        let numbers = self.profile.curves.iter().map(|curve| i64::from(curve.pvi)).zip(1..);
+        for (pvi, number) in self.sheet.apart(numbers, ROOM_FOR) {
+            writeln!(out, r#"<text class="middle" x="{}" y="11500">{number}</text>"#, self.sheet.x(pvi))?;
+        }
+        Ok(())
+    }
+}

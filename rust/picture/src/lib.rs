@@ -1,0 +1,127 @@
+//! A road's picture, in SVG: its profile, the zones along it, and its curves.
+//!
+//! This only draws. Heights, distances and zones are handed over as the proved functions give them, and where they lie on
+//! the sheet is worked out in whole numbers. Any numbers are drawn: what would lie outside the plot lies at its edge.
+
+#![forbid(unsafe_code)]
+#![deny(missing_docs)]
+
+use std::fmt::{self, Formatter};
+
+use crate::sheet::{Sheet, BOTTOM, LEFT, RIGHT};
+
+mod axes;
+mod curves;
+mod sheet;
+mod zones;
+
+/// A vertical curve, or a break in grade.
+#[derive(Clone, Copy, Debug, PartialEq, Eq)]
+pub struct Curve {
+    /// The station of its PVI.
+    pub pvi: u32,
+    /// Its length in metres, 0 for a break.
+    pub length: u32,
+    /// The grade behind it, in hundredths of a percent.
+    pub grade_out: i32,
+}
+
+/// A road's profile, and what is to be said of the sight along it.
+#[derive(Clone, Copy, Debug)]
+pub struct Profile<'a> {
+    /// The speed in km/h.
+    pub speed: u32,
+    /// The purpose of the decision: 1 to 5 for the decisions A to E.
+    pub purpose: u32,
+    /// The distance in metres that a driver needs to see for stopping.
+    pub stopping: u32,
+    /// The distance in metres that a driver needs to see for the decision.
+    pub decision: u32,
+    /// The grade before the first curve, in hundredths of a percent.
+    pub first_grade: i32,
+    /// The curves in their order.
+    pub curves: &'a [Curve],
+    /// A height for each station, in h-units, which are tenths of a millimetre. The last station is the road's length.
+    pub heights: &'a [i32],
+    /// The zones of the letters S, D, R, s and d, ascending, each by its first and last station.
+    pub zones: &'a [Vec<[u16; 2]>; 5],
+}
+
+/// The picture of a profile: an SVG document that needs nothing else.
+///
+/// ```
+/// use picture::{svg, Curve, Profile};
+///
+/// // From height 0 it rises by 15 %, and from station 100 on it falls by 15 %.
+/// let heights: Vec<i32> = (0..=300_i32).map(|station| 1_500 * (100 - (station - 100).abs())).collect();
+/// let picture = svg(&Profile {
+///     speed: 20,
+///     purpose: 1,
+///     stopping: 20,
+///     decision: 25,
+///     first_grade: 1_500,
+///     curves: &[Curve { pvi: 100, length: 0, grade_out: -1_500 }],
+///     heights: &heights,
+///     zones: &[vec![[83, 95]], vec![[78, 96]], vec![[78, 82], [96, 96]], vec![[281, 300]], vec![[276, 300]]],
+/// });
+/// assert!(picture.starts_with("<svg "));
+/// assert!(picture.contains("20 km/h: stopping sight 20 m, decision sight 25 m (purpose 1)"));
+/// ```
+pub fn svg(profile: &Profile) -> String {
+    Picture { profile, sheet: Sheet::of(profile.heights) }.to_string()
+}
+
+/// A profile on its sheet.
+struct Picture<'a> {
+    profile: &'a Profile<'a>,
+    sheet: Sheet,
+}
+
+/// The sheet's size, its styles and its ground.
+const OPENING: &str = concat!(
+    r#"<svg xmlns="http://www.w3.org/2000/svg" viewBox="0 0 160000 90000" width="1600" height="900">"#,
+    "\n<style>\n",
+    include_str!("style.css"),
+    "</style>\n",
+    r##"<rect width="160000" height="90000" fill="#fff"/>"##,
+    "\n",
+);
+
+impl fmt::Display for Picture<'_> {
+    /// What is drawn later lies above what was drawn before.
+    fn fmt(&self, out: &mut Formatter) -> fmt::Result {
+        out.write_str(OPENING)?;
+        self.headings(out)?;
+        self.earth(out)?;
+        self.tint(out)?;
+        self.station_axis(out)?;
+        self.height_axis(out)?;
+        self.strips(out)?;
+        self.curves(out)?;
+        self.curve_numbers(out)?;
+        self.road(out)?;
+        out.write_str("</svg>\n")
+    }
+}
+
+impl Picture<'_> {
+    /// The title, and below it the speed, the distances that it needs, and the exaggeration.
+    fn headings(&self, out: &mut Formatter) -> fmt::Result {
+        let Profile { speed, purpose, stopping, decision, .. } = self.profile;
+        let Sheet { length, exaggeration, .. } = self.sheet;
+        writeln!(out, "<title>Sight along the road, {length} m</title>")?;
+        writeln!(out, r#"<text class="title" x="1500" y="4200">Sight along the road, {length} m</text>"#)?;
+        write!(out, r#"<text class="sub" x="1500" y="7000">{speed} km/h: stopping sight {stopping} m, "#)?;
+        write!(out, "decision sight {decision} m (purpose {purpose}); ")?;
+        write!(out, "sight in the direction of rising stations &#8594;; ")?;
+        writeln!(out, r#"vertical exaggeration <tspan class="letter">{exaggeration} : 1</tspan></text>"#)
+    }
+
+    /// The profile as a line that is used by its name, and the earth below it.
+    fn earth(&self, out: &mut Formatter) -> fmt::Result {
+        let point = |(station, &height): (i64, &i32)| format!(" {},{}", self.sheet.x(station), self.sheet.y(height));
+        let points: String = (0..).zip(self.profile.heights).map(point).collect();
+        writeln!(out, r#"<defs><polyline id="profile" points="{points}"/></defs>"#)?;
+        writeln!(out, r#"<polygon class="earth" points="{LEFT},{BOTTOM}{points} {RIGHT},{BOTTOM}"/>"#)
+    }
+}

@@ -1,0 +1,113 @@
+//! The geometry of a picture: where stations and heights lie on the sheet, and the steps of its axes.
+//!
+//! Coordinates are whole hundredths of a pixel, x to the right and y down, on a sheet of 1,600 by 900 pixels. Stations are
+//! metres, and heights h-units.
+
+// The edges of the plot, which the profile is drawn in.
+pub const LEFT: i64 = 22_000;
+pub const RIGHT: i64 = 150_000;
+pub const TOP: i64 = 14_000;
+pub const BOTTOM: i64 = 62_000;
+
+pub const WIDTH: i64 = RIGHT - LEFT;
+pub const HEIGHT: i64 = BOTTOM - TOP;
+
+/// A metre in h-units.
+pub const METRE: i64 = 10_000;
+
+/// The part of the plot's height that a profile may fill.
+const PROFILE_ROOM: i64 = 40_000;
+
+/// The least width of a zone, so that one of a single station is seen.
+const LEAST_ZONE: i64 = 250;
+
+/// How many times heights may be stretched, the largest first.
+const EXAGGERATIONS: [i64; 9] = [500, 200, 100, 50, 20, 10, 5, 2, 1];
+
+/// How a road lies on the sheet.
+pub struct Sheet {
+    /// The road's length in metres.
+    pub length: i64,
+    /// How many times longer a metre up is than a metre across.
+    pub exaggeration: i64,
+    /// The height at the plot's lower edge.
+    pub foot: i64,
+    /// The h-units from the plot's lower edge to its upper one.
+    pub shown: i64,
+}
+
+impl Sheet {
+    /// The sheet for a road with a height for each station: the profile in the middle of the plot, stretched as far as it
+    /// finds room.
+    pub fn of(heights: &[i32]) -> Sheet {
+        // With a length of 32 bits every product below fits 64.
+        let length = u32::try_from(heights.len().saturating_sub(1)).unwrap_or(u32::MAX).into();
+        let low = heights.iter().min().map_or(0, |&height| i64::from(height));
+        let high = heights.iter().max().map_or(0, |&height| i64::from(height));
+        let range = high - low;
+        let fits = |&exaggeration: &i64| range <= showing(PROFILE_ROOM, exaggeration, length);
+        let exaggeration = EXAGGERATIONS.into_iter().find(fits).unwrap_or(1);
+        let shown = showing(HEIGHT, exaggeration, length);
+        Sheet { length, exaggeration, foot: low - (shown - range).max(0) / 2, shown }
+    }
+
+    /// x of a station; off the road that of its nearer end.
+    pub fn x(&self, station: impl Into<i64>) -> i64 {
+        self.along(2 * station.into())
+    }
+
+    /// x of the left edge of a zone. It lies half a metre before its first station, and the right edge half a metre behind
+    /// its last, so that neighbouring zones meet.
+    pub fn zone_left(&self, first: u16) -> i64 {
+        self.along(2 * i64::from(first) - 1)
+    }
+
+    /// The width of a zone from its first station to its last.
+    pub fn zone_width(&self, [first, last]: [u16; 2]) -> i64 {
+        let right = self.along(2 * i64::from(last) + 1);
+        (right - self.zone_left(first)).max(LEAST_ZONE)
+    }
+
+    /// x so many half metres along the road. A road of no length is at the left edge.
+    fn along(&self, halves: i64) -> i64 {
+        let all = 2 * self.length;
+        LEFT + (halves.clamp(0, all) * WIDTH).checked_div(all).unwrap_or(0)
+    }
+
+    /// y of a height; below what is shown that of the plot's lower edge, and above it that of its upper one.
+    pub fn y(&self, height: impl Into<i64>) -> i64 {
+        let above = (height.into() - self.foot).clamp(0, self.shown);
+        BOTTOM - (self.exaggeration * WIDTH * above).checked_div(self.length * METRE).unwrap_or(0)
+    }
+
+    /// The labels that do not touch the one before, each with its station. There is room for so many along the road.
+    pub fn apart<T>(&self, labels: impl Iterator<Item = (i64, T)>, room_for: i64) -> impl Iterator<Item = (i64, T)> {
+        let room = self.length / room_for;
+        let mut free = 0;
+        labels.filter(move |&(station, _)| {
+            let fits = free <= station;
+            if fits {
+                free = station + room;
+            }
+            fits
+        })
+    }
+}
+
+/// How many h-units so many hundredths of a pixel upright show of a road of this length.
+fn showing(upright: i64, exaggeration: i64, length: i64) -> i64 {
+    upright * (length * METRE) / (exaggeration * WIDTH)
+}
+
+/// The least of the steps 1, 2, 5, 10, 20, 50 and so on by which no more than `most` cover the span.
+pub fn step(span: i64, most: i64) -> i64 {
+    let least = ((span + most - 1) / most).max(1);
+    let unit = 10_i64.pow(least.ilog10());
+    [unit, 2 * unit, 5 * unit].into_iter().find(|&step| least <= step).unwrap_or(10 * unit)
+}
+
+/// The multiples of a step from one number to another, both included.
+pub fn multiples(step: i64, from: i64, to: i64) -> impl Iterator<Item = i64> {
+    let first = -(-from).div_euclid(step);
+    (first..).map(move |times| times * step).take_while(move |&number| number <= to)
+}

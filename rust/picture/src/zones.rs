@@ -1,0 +1,93 @@
+//! The zones: along the road, and in the strips below the plot.
+
+use std::fmt::{self, Formatter};
+
+use crate::sheet::{HEIGHT, LEFT, RIGHT, TOP};
+use crate::Picture;
+
+/// The strips in the order of a profile's zones: class, letter and meaning.
+const STRIPS: [[&str; 3]; 5] = [
+    ["S", "S", "stopping sight lacking"],
+    ["D", "D", "decision sight lacking"],
+    ["R", "R", "reduced decision zone"],
+    ["ns", "s", "stopping not judged"],
+    ["nd", "d", "decision not judged"],
+];
+
+/// There is room for the stations of so many zones.
+const ROOM_FOR: i64 = 20;
+
+/// The profile's line in the parts that are cut out of it.
+const ROAD: &str = r##"<use href="#profile" class="road ns" clip-path="url(#ns)"/>
+<use href="#profile" class="road" clip-path="url(#judged)"/>
+<use href="#profile" class="road R" clip-path="url(#R)"/>
+<use href="#profile" class="road S" clip-path="url(#S)"/>
+"##;
+
+impl Picture<'_> {
+    /// A tint over the plot where stopping sight is lacking.
+    pub fn tint(&self, out: &mut Formatter) -> fmt::Result {
+        let [lacking, ..] = self.profile.zones;
+        writeln!(out, r#"<g class="tint">"#)?;
+        self.bars(out, lacking, TOP, HEIGHT)?;
+        writeln!(out, "</g>")
+    }
+
+    /// The road: dark where it is judged, dashed where it is not, and thick along the zones S and R.
+    pub fn road(&self, out: &mut Formatter) -> fmt::Result {
+        let [lacking, _, reduced, not_judged, _] = self.profile.zones;
+        let right = not_judged.first().map_or(RIGHT, |&[first, _]| self.sheet.zone_left(first));
+        writeln!(out, r#"<clipPath id="judged"><path d="M0 0H{right}V90000H0Z"/></clipPath>"#)?;
+        for (id, zones) in [("S", lacking), ("R", reduced), ("ns", not_judged)] {
+            writeln!(out, r#"<clipPath id="{id}">"#)?;
+            self.bars(out, zones, TOP, HEIGHT)?;
+            writeln!(out, "</clipPath>")?;
+        }
+        out.write_str(ROAD)
+    }
+
+    /// A rectangle for each zone.
+    fn bars(&self, out: &mut Formatter, zones: &[[u16; 2]], top: i64, height: i64) -> fmt::Result {
+        for &zone in zones {
+            let (left, width) = (self.sheet.zone_left(zone[0]), self.sheet.zone_width(zone));
+            writeln!(out, r#"<rect x="{left}" y="{top}" width="{width}" height="{height}"/>"#)?;
+        }
+        Ok(())
+    }
+
+    /// A strip for each letter.
+    pub fn strips(&self, out: &mut Formatter) -> fmt::Result {
+        for ((place, strip), zones) in (0..).zip(STRIPS).zip(self.profile.zones) {
+            self.strip(out, strip, 66_500 + 4_400 * place, zones)?;
+        }
+        Ok(())
+    }
+
+    /// A strip, in a group of its class: the letter and its meaning, a bar for each zone, their stations and their number.
+    fn strip(&self, out: &mut Formatter, strip: [&str; 3], top: i64, zones: &[[u16; 2]]) -> fmt::Result {
+        let [class, letter, meaning] = strip;
+        writeln!(out, r#"<g class="{class}" transform="translate(0 {top})">"#)?;
+        writeln!(out, r#"<path class="lane" d="M{LEFT} 1500H{RIGHT}V3300H{LEFT}Z"/>"#)?;
+        write!(out, r#"<path d="M1500 1500H3100V3300H1500Z"/><text x="3800" y="2850">"#)?;
+        writeln!(out, r#"<tspan class="letter">{letter}</tspan>&#160; {meaning}</text>"#)?;
+        self.bars(out, zones, 1_500, 1_800)?;
+        self.zone_labels(out, zones)?;
+        let plural = if zones.len() == 1 { "" } else { "s" };
+        writeln!(out, r#"<text x="151200" y="2850">{} zone{plural}</text>"#, zones.len())?;
+        writeln!(out, "</g>")
+    }
+
+    /// The zones' first and last stations, above them; a label that would touch the one before it is left out.
+    fn zone_labels(&self, out: &mut Formatter, zones: &[[u16; 2]]) -> fmt::Result {
+        let middle = |&[first, last]: &[u16; 2]| (i64::from(first) + i64::from(last)) / 2;
+        let labels = zones.iter().map(|zone| (middle(zone), zone));
+        for (middle, [first, last]) in self.sheet.apart(labels, ROOM_FOR) {
+            write!(out, r#"<text class="zone" x="{}" y="1200">{first}"#, self.sheet.x(middle))?;
+            if first < last {
+                write!(out, "&#8211;{last}")?;
+            }
+            writeln!(out, "</text>")?;
+        }
+        Ok(())
+    }
+}
