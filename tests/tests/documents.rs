@@ -42,12 +42,6 @@ fn listing_of_the_readme() {
     assert_eq!(printed, listing(&three_crests()), "second calculation");
 }
 
-/// The picture of the README is the one that the plotter draws of its road.
-#[test]
-fn picture_of_the_readme() {
-    assert!(program::output("plotter", &three_crests()) == text("docs/three-crests.svg"));
-}
-
 /// The text of the README is how the shipped text begins.
 #[test]
 fn text_of_the_readme() {

@@ -1,0 +1,165 @@
+//! Pictures of a few profiles, with what is to be seen in them written out.
+
+use std::array;
+
+use picture::{svg, Curve, Profile};
+use sight_tests::random::Random;
+
+use crate::elements::{Element, Elements, Outline};
+use crate::rules::{HEIGHT, LEFT, TOP, WIDTH};
+
+const NO_ZONES: [Vec<[u16; 2]>; 5] = [const { Vec::new() }; 5];
+
+/// A profile with these heights, curves and zones. If it has 1,281 heights, its stations are drawn a pixel apart.
+fn profile<'a>(heights: &'a [i32], curves: &'a [Curve], zones: &'a [Vec<[u16; 2]>; 5]) -> Profile<'a> {
+    Profile { speed: 20, purpose: 1, stopping: 20, decision: 25, first_grade: 0, curves, heights, zones }
+}
+
+/// A filled hump over a crest, an open bowl over a sag, a triangle at a break, and nothing where the grade stays.
+#[test]
+fn shapes_of_curves() {
+    let curves = [(100, 40, -100), (200, 20, 300), (300, 20, 300), (400, 0, 200), (500, 0, 200), (600, 0, 250)];
+    let curves = curves.map(|(pvi, length, grade_out)| Curve { pvi, length, grade_out });
+    let text = svg(&profile(&[0; 1_281], &curves, &NO_ZONES));
+    let outlines = Elements::of(&text).outlines();
+    let drawn = [
+        ("pvi", "MV", &[(32_000, 13_200), (32_000, 38_000)][..]),
+        ("crest", "MQZ", &[(30_000, 13_000), (32_000, 11_000), (34_000, 13_000)]),
+        ("pvi", "MV", &[(42_000, 13_200), (42_000, 38_000)]),
+        ("sag", "MQZ", &[(41_000, 12_000), (42_000, 14_000), (43_000, 12_000)]),
+        ("pvi", "MV", &[(62_000, 13_200), (62_000, 38_000)]),
+        ("crest", "MLLZ", &[(61_450, 13_000), (62_000, 12_000), (62_550, 13_000)]),
+        ("pvi", "MV", &[(82_000, 13_200), (82_000, 38_000)]),
+        ("sag", "MLLZ", &[(81_450, 12_000), (82_000, 13_000), (82_550, 12_000)]),
+    ];
+    assert_eq!(outlines[3..], drawn.map(|(class, commands, points)| Outline::new(class, commands, points)));
+    assert!(text.contains(".crest{fill:#20507f;") && text.contains(".sag{fill:#fff;"));
+}
+
+/// A zone reaches half a metre to each side, though not beyond the road, and is 2.5 pixels wide or wider.
+#[test]
+fn zones_and_what_is_judged() {
+    let zones = [vec![], vec![[0, 4], [10, 10], [20, 29], [1_280, 1_280]], vec![], vec![], vec![]];
+    let all = Elements::of(&svg(&profile(&[0; 1_281], &[], &zones)));
+    let bars = [[22_000, 450], [22_950, 250], [23_950, 1_000], [149_950, 250]];
+    let strip = all.only("class", "D").0;
+    assert_eq!(all.rectangles(strip), bars.map(|[left, width]| [left, 1_500, width, 1_800]));
+    // Without a zone of the letter s all is judged.
+    let judged = all.only("id", "judged").0;
+    assert!(all.inside(judged).map(|element| element.path().1).eq([[0, 0, LEFT + WIDTH, 90_000, 0]]));
+}
+
+/// A number above a curve, or a zone's stations, would touch the one before: it is left out, and the next one is not.
+#[test]
+fn labels_give_way() {
+    let curves = [100, 119, 120, 139, 141].map(|pvi| Curve { pvi, length: 0, grade_out: 0 });
+    let zones = [vec![], vec![[0, 0], [60, 67], [64, 64], [100, 200]], vec![], vec![], vec![]];
+    let all = Elements::of(&svg(&profile(&[0; 1_281], &curves, &zones)));
+    let numbers: Vec<_> = all.with("y", "11500").map(Element::label).collect();
+    assert_eq!(numbers, [(32_000, "1"), (34_000, "3"), (36_100, "5")].map(|(x, text)| (x, text.to_string())));
+    let stations: Vec<_> = all.with("class", "zone").map(Element::label).collect();
+    let shown = [(22_000, "0"), (28_400, "64"), (37_000, "100&#8211;200")];
+    assert_eq!(stations, shown.map(|(x, text)| (x, text.to_string())));
+}
+
+/// Level roads: so many metres, at a height in h-units.
+#[test]
+fn numbers_of_the_axes() {
+    let heights = |length: usize, height: i32| {
+        let all = Elements::of(&svg(&profile(&vec![height; length + 1], &[], &NO_ZONES)));
+        all.with("class", "height").map(|element| element.text.replace("&#8722;", "-")).collect::<Vec<_>>()
+    };
+    let below_zero = ["-0.0003", "-0.0002", "-0.0001", "0.0000", "0.0001", "0.0002", "0.0003", "0.0004"];
+    assert_eq!(heights(1, 0), below_zero);
+    assert_eq!(heights(10, -100_000), ["-10.003", "-10.002", "-10.001", "-10.000", "-9.999", "-9.998", "-9.997"]);
+    assert_eq!(heights(100, 123_400), ["12.31", "12.32", "12.33", "12.34", "12.35", "12.36", "12.37"]);
+    assert_eq!(heights(1_280, 0), ["-0.4", "-0.3", "-0.2", "-0.1", "0.0", "0.1", "0.2", "0.3", "0.4"]);
+    assert_eq!(heights(8_000, 90_000_000), ["8997", "8998", "8999", "9000", "9001", "9002", "9003"]);
+
+    let stations = |length: usize| {
+        let all = Elements::of(&svg(&profile(&vec![0; length + 1], &[], &NO_ZONES)));
+        let numbers = all.with("y", "64000").filter(|element| element.get("class") == "middle");
+        numbers.map(|element| element.text.clone()).collect::<Vec<_>>()
+    };
+    assert_eq!(stations(1), ["0", "1"]);
+    assert_eq!(stations(16), (0..=16).map(|station| station.to_string()).collect::<Vec<_>>());
+    assert_eq!(stations(17), ["0", "2", "4", "6", "8", "10", "12", "14", "16", "17"]);
+    assert_eq!(stations(1_651), ["0", "200", "400", "600", "800", "1000", "1200", "1400", "1600"]);
+    assert_eq!(stations(1_652), ["0", "200", "400", "600", "800", "1000", "1200", "1400", "1600", "1652"]);
+}
+
+/// The largest exaggeration at which 1,280 m by so many h-units find room: 400 pixels are 400 m at 1 : 1.
+#[test]
+fn exaggerations() {
+    let mut heights = [0; 1_281];
+    for (range, exaggeration) in [
+        (8_000, 500),
+        (8_001, 200),
+        (20_000, 200),
+        (20_001, 100),
+        (80_001, 20),
+        (800_000, 5),
+        (2_000_000, 2),
+        (2_000_001, 1),
+        (i32::MAX, 1),
+    ] {
+        heights[700] = range;
+        let picture = svg(&profile(&heights, &[], &NO_ZONES));
+        assert!(picture.contains(&format!(">{exaggeration} : 1<")), "{range}");
+    }
+}
+
+/// Where a profile finds no room at any exaggeration, its lowest height is at the lower edge, and what is too high at the
+/// upper one.
+#[test]
+fn a_profile_without_room() {
+    let all = Elements::of(&svg(&profile(&[-1_000, i32::MAX, 2_750], &[], &NO_ZONES)));
+    assert_eq!(all.only("id", "profile").1.points(), [(22_000, 62_000), (86_000, 14_000), (150_000, 38_000)]);
+}
+
+/// Whatever the numbers, there is a picture, and what it shows is on the sheet.
+#[test]
+fn absurd_numbers() {
+    let mut random = Random::new(76);
+    let mut lists = vec![vec![], vec![0], vec![i32::MIN], vec![i32::MAX; 2], vec![i32::MIN, i32::MAX]];
+    lists.extend((0..300).map(|places| random.list(places, |bits| bits as i32)));
+    for heights in lists {
+        let number = |random: &mut Random| random.one_of(&[0, 1, 2, 100, u32::MAX - 1, u32::MAX]);
+        let curves: Vec<Curve> = (0..random.within(0..=40))
+            .map(|_| Curve {
+                pvi: number(&mut random),
+                length: number(&mut random),
+                grade_out: random.one_of(&[i32::MIN, -1, 0, i32::MAX]),
+            })
+            .collect();
+        let zones = array::from_fn(|_| {
+            let places = random.within(0..=5) as usize;
+            random.list(places, |bits| [bits as u16, (bits >> 16) as u16 >> (bits >> 60)])
+        });
+        let text = svg(&Profile {
+            speed: u32::MAX,
+            purpose: u32::MAX,
+            stopping: 0,
+            decision: u32::MAX,
+            first_grade: i32::MIN,
+            ..profile(&heights, &curves, &zones)
+        });
+        on_the_sheet(&Elements::of(&text));
+    }
+}
+
+fn on_the_sheet(all: &Elements) {
+    let (across, down) = (LEFT..=LEFT + WIDTH, TOP..=TOP + HEIGHT);
+    for (x, y) in all.only("class", "earth").1.points() {
+        assert!(across.contains(&x) && down.contains(&y), "{x}, {y}");
+    }
+    for (place, _) in all.0.iter().enumerate().filter(|(_, element)| element.name == "g") {
+        for [x, _, width, _] in all.rectangles(place) {
+            assert!(across.contains(&x) && (250..=WIDTH).contains(&width), "{x}, {width}");
+        }
+    }
+    for Outline { points, .. } in &all.outlines()[3..] {
+        assert!(points.iter().all(|(x, y)| (0..=160_000).contains(x) && (0..=90_000).contains(y)), "{points:?}");
+    }
+    assert!(all.with("class", "grid").count() <= 18 + 11);
+}

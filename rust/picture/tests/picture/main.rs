@@ -1,0 +1,226 @@
+//! Pictures, taken apart and compared with a separately written calculation. Heights, distances and zones are those of the
+//! second calculation too, so that nothing here needs the proved functions.
+
+use std::array;
+use std::fs;
+use std::path::Path;
+
+use picture::{svg, Curve, Profile};
+use sight_tests::random::Random;
+use sight_tests::reference::distances::required_distance;
+use sight_tests::reference::file::read;
+use sight_tests::reference::marks::{marks, runs};
+use sight_tests::reference::road::{heights, Road};
+use sight_tests::roads;
+
+use crate::elements::{Element, Elements};
+use crate::rules::{Plot, HEIGHT, LEFT, TOP, WIDTH};
+
+mod by_hand;
+mod elements;
+mod rules;
+
+/// The classes of the strips, in the order of a profile's zones.
+const STRIPS: [&str; 5] = ["S", "D", "R", "ns", "nd"];
+
+/// What the second calculation knows of a road.
+struct Known {
+    distances: [u32; 2],
+    curves: Vec<Curve>,
+    heights: Vec<i32>,
+    zones: [Vec<[u16; 2]>; 5],
+}
+
+impl Known {
+    fn of(road: &Road) -> Known {
+        let (speed, purpose) = (road.speed.into(), road.purpose.into());
+        let mut list = vec![0; road.length as usize + 1];
+        heights(road, &mut list).expect("the road is accepted");
+        let mut marked = vec![0; list.len()];
+        marks(speed, purpose, &list, &mut marked).expect("the heights are marked");
+        let curves = road.curves.iter().map(|curve| Curve {
+            pvi: curve.pvi,
+            length: curve.length.into(),
+            grade_out: curve.grade_out.into(),
+        });
+        Known {
+            distances: [0, purpose].map(|purpose| required_distance(speed, purpose).expect("the road is accepted")),
+            curves: curves.collect(),
+            heights: list,
+            zones: array::from_fn(|bit| runs(&marked, bit as u32)),
+        }
+    }
+
+    fn picture(&self, road: &Road) -> String {
+        let [stopping, decision] = self.distances;
+        svg(&Profile {
+            speed: road.speed.into(),
+            purpose: road.purpose.into(),
+            stopping,
+            decision,
+            first_grade: road.first_grade.into(),
+            curves: &self.curves,
+            heights: &self.heights,
+            zones: &self.zones,
+        })
+    }
+}
+
+// ---- the comparison
+/// Compares a road's picture with the second calculation, and answers how many zones it has.
+fn compare(road: &Road) -> usize {
+    let known = Known::of(road);
+    let plot = Plot::of(&known.heights);
+    let text = known.picture(road);
+    let all = Elements::of(&text);
+    assert_eq!(all.0[0].name, "svg");
+    assert_eq!(all.0[0].get("viewBox"), "0 0 160000 90000");
+    compare_headings(road, &known, &plot, &text);
+    compare_profile(&known, &plot, &all);
+    compare_zones(&known, &plot, &all);
+    compare_strips(&known, &plot, &all);
+    compare_axes(&plot, &all);
+    compare_curves(road, &known, &plot, &all);
+    known.zones.iter().map(Vec::len).sum()
+}
+
+fn compare_headings(road: &Road, known: &Known, plot: &Plot, text: &str) {
+    let (length, speed, purpose) = (road.length, road.speed, road.purpose);
+    let ([stopping, decision], exaggeration) = (known.distances, plot.exaggeration);
+    let distances = format!("stopping sight {stopping} m, decision sight {decision} m (purpose {purpose});");
+    for words in [
+        format!("<title>Sight along the road, {length} m</title>"),
+        format!(">Sight along the road, {length} m</text>"),
+        format!(">{speed} km/h: {distances}"),
+        format!("vertical exaggeration <tspan class=\"letter\">{exaggeration} : 1</tspan>"),
+    ] {
+        assert_eq!(text.matches(&words).count(), 1, "{words} of {road:?}");
+    }
+}
+
+fn compare_profile(known: &Known, plot: &Plot, all: &Elements) {
+    let profile = plot.profile(&known.heights);
+    assert!(profile.iter().all(|&(_, y)| (TOP..=TOP + HEIGHT).contains(&y)), "the profile is in the plot");
+    assert_eq!(all.only("id", "profile").1.points(), profile);
+    let earth = [&[(LEFT, TOP + HEIGHT)], &profile[..], &[(LEFT + WIDTH, TOP + HEIGHT)]].concat();
+    assert_eq!(all.only("class", "earth").1.points(), earth);
+}
+
+/// The tint of the plot and the parts that are cut out of the road.
+fn compare_zones(known: &Known, plot: &Plot, all: &Elements) {
+    let [lacking, _, reduced, not_judged, _] = &known.zones;
+    for (attribute, value, zones) in
+        [("class", "tint", lacking), ("id", "S", lacking), ("id", "R", reduced), ("id", "ns", not_judged)]
+    {
+        let group = all.only(attribute, value).0;
+        assert_eq!(all.rectangles(group), plot.zones(zones, TOP, HEIGHT), "{value}");
+    }
+    let judged = all.only("id", "judged").0;
+    let paths: Vec<_> = all.inside(judged).map(Element::path).collect();
+    let right = plot.across(2 * i64::from(not_judged[0][0]) - 1);
+    assert_eq!(paths, [("MHVHZ".to_string(), vec![0, 0, right, 90_000, 0])]);
+}
+
+fn compare_strips(known: &Known, plot: &Plot, all: &Elements) {
+    for (zones, class) in known.zones.iter().zip(STRIPS) {
+        let strip = all.only("class", class).0;
+        assert_eq!(all.rectangles(strip), plot.zones(zones, 1_500, 1_800), "{class}");
+        let labels = all.inside(strip).filter(|element| element.get("class") == "zone");
+        assert_eq!(labels.map(Element::label).collect::<Vec<_>>(), plot.zone_labels(zones), "{class}");
+        let plural = if zones.len() == 1 { "" } else { "s" };
+        let tally = format!("{} zone{plural}", zones.len());
+        assert!(all.inside(strip).any(|element| element.text == tally), "{tally}");
+    }
+}
+
+/// The grid's lines and their numbers: first those of the stations, then those of the heights.
+fn compare_axes(plot: &Plot, all: &Elements) {
+    let stations = plot.stations();
+    let numbers = all.with("y", "64000").filter(|element| element.get("class") == "middle").map(Element::label);
+    let expected: Vec<_> = stations.iter().map(|&(x, station)| (x, station.to_string())).collect();
+    assert_eq!(numbers.collect::<Vec<_>>(), expected);
+
+    let heights = plot.heights();
+    let numbers = all.with("class", "height").map(|element| {
+        let (height, decimals) = metres(&element.text);
+        (element.number("y"), height, decimals)
+    });
+    assert_eq!(numbers.collect::<Vec<_>>(), heights);
+
+    let upright = |&(x, _): &(i64, i64)| vec![x, TOP, TOP + HEIGHT, x, 66_800, 88_600];
+    let across = |&(y, ..): &(i64, i64, usize)| vec![LEFT, y, LEFT + WIDTH];
+    let lines: Vec<_> = stations.iter().map(upright).chain(heights.iter().map(across)).collect();
+    assert_eq!(all.with("class", "grid").map(|line| line.path().1).collect::<Vec<_>>(), lines);
+}
+
+/// A number in metres: its h-units, and how many decimals it has.
+fn metres(text: &str) -> (i64, usize) {
+    let size = text.strip_prefix("&#8722;").unwrap_or(text);
+    let (whole, decimals) = size.split_once('.').unwrap_or((size, ""));
+    assert_eq!(size.contains('.'), !decimals.is_empty(), "{text}");
+    let units: i64 = format!("{whole}{decimals:0<4}").parse().expect("digits");
+    assert!(units != 0 || size == text, "zero has no sign");
+    (if size == text { units } else { -units }, decimals.len())
+}
+
+/// The curves' shapes behind the three of the key, and their numbers.
+fn compare_curves(road: &Road, known: &Known, plot: &Plot, all: &Elements) {
+    assert_eq!(all.outlines()[3..], plot.curves(road, &known.heights), "{road:?}");
+    let numbers = all.with("y", "11500").map(Element::label);
+    assert_eq!(numbers.collect::<Vec<_>>(), plot.curve_numbers(road));
+}
+
+// ---- roads
+#[test]
+fn random_runs_of_short_crests() {
+    let mut random = Random::new(71);
+    let mut zones = 0;
+    for _ in 0..500 {
+        let room = random.within(2..=100);
+        let mut road = roads::run_of_crests(&mut random, room);
+        road.length += random.within(0..=100);
+        road.speed = random.one_of(&[20, 25, 30, 35, 40]);
+        zones += compare(&road);
+    }
+    assert!(zones > 1_000, "{zones} zones");
+}
+
+#[test]
+fn random_roads() {
+    let mut random = Random::new(72);
+    for round in 0..200 {
+        let road = match round % 4 {
+            0 => roads::any_road(&mut random),
+            1 => roads::breaks(&mut random, 100),
+            2 => roads::one_curve(&mut random, 500),
+            _ => roads::sparse(&mut random, 100),
+        };
+        compare(&road);
+        compare(&roads::gentler(road, 100));
+    }
+}
+
+/// The lowest and the highest start, the steepest road up and down, and the shortest and the longest.
+#[test]
+fn edges() {
+    for length in [1, 2, 20, 21, 7_999, 8_000] {
+        for start_height in [-10_000_000, 0, 90_000_000] {
+            for first_grade in [-1_500, -1, 0, 1, 1_500] {
+                let road = Road { speed: 20, purpose: 1, length, start_height, first_grade, curves: Vec::new() };
+                assert_eq!(compare(&road), 2);
+            }
+        }
+    }
+    compare(&roads::longest(&mut Random::new(73)));
+    compare(&Road { speed: 30, ..roads::full(&mut Random::new(75)) });
+}
+
+/// The picture that ships with the repository, to the byte.
+#[test]
+fn picture_of_the_readme() {
+    let root = Path::new(env!("CARGO_MANIFEST_DIR")).join("../..");
+    let file = fs::read(root.join("roads/three-crests.vcp")).expect("the road ships with the repository");
+    let shown = fs::read_to_string(root.join("docs/three-crests.svg")).expect("so does its picture");
+    let road = read(&file).expect("the road is accepted");
+    assert!(Known::of(&road).picture(&road) == shown);
+}
