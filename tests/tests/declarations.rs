@@ -2,7 +2,15 @@
 //! linker goes by the name alone.
 
 const VAN: [&str; 2] = [include_str!("../../crates/van/src/lib.rt"), include_str!("../../rust/van/src/lib.rs")];
-const PROBE: [&str; 2] = [include_str!("../../crates/probe/src/lib.rt"), include_str!("../src/probe.rs")];
+const EXPORTS: [&str; 2] = [
+    concat!(
+        include_str!("../../crates/sight_exports/src/lib.rt"),
+        include_str!("../../crates/marks_exports/src/lib.rt"),
+        include_str!("../../crates/file_exports/src/lib.rt"),
+        include_str!("../../crates/listing_exports/src/lib.rt"),
+    ),
+    include_str!("../../rust/exports/src/lib.rs"),
+];
 
 /// A function as it is called: by its name, with what is handed over in order, and with the type of its answer.
 #[derive(Debug, PartialEq)]
@@ -103,7 +111,7 @@ fn differing([rattle, rust]: [&str; 2]) -> Vec<String> {
 
 #[test]
 fn declarations_are_those_of_the_proved_crates() {
-    for (pair, many) in [(VAN, 3), (PROBE, 6)] {
+    for (pair, many) in [(VAN, 3), (EXPORTS, 7)] {
         assert_eq!(exported(pair[0]).len(), many);
         assert_eq!(differing(pair), [""; 0], "{:#?}\n{:#?}", exported(pair[0]), declared(pair[1]));
     }

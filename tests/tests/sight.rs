@@ -2,7 +2,7 @@
 //! straights.
 
 use sight_tests::lent;
-use sight_tests::probe;
+use sight_tests::proved;
 use sight_tests::random::Random;
 use sight_tests::reference::distances::required_distance;
 use sight_tests::reference::file::bytes;
@@ -26,14 +26,14 @@ fn any_look(random: &mut Random, farthest: u32) -> Look {
 
 /// The program's sight from one station, which is that of the second calculation.
 fn compare_sight(heights: &[i32], station: u32, look: Look) -> Answer {
-    let answer = probe::sight(heights, station, look);
+    let answer = proved::sight(heights, station, look);
     assert_eq!(answer, sight(heights, station, look), "station {station}, {look:?}, {heights:?}");
     answer
 }
 
 /// The program fills `places` numbers with sights just as the second calculation does, and the rest stays.
 fn compare_profile(random: &mut Random, heights: &[i32], look: Look, places: usize) -> (Answer, Vec<u16>) {
-    let proved = |list: &mut [u16]| probe::profile(heights, look, list);
+    let proved = |list: &mut [u16]| proved::profile(heights, look, list);
     let second = |list: &mut [u16]| sight_profile(heights, look, list);
     lent::compare(&random.list(places, |bits| bits as u16), proved, second, format_args!("{look:?}, {heights:?}"))
 }
@@ -47,7 +47,7 @@ fn compare_all(random: &mut Random, heights: &[i32], look: Look) -> Vec<u16> {
     assert_eq!(compare_profile(random, heights, look, stations - 1).0, Err(14));
     sights.truncate(stations);
     for (station, &there) in (0..).zip(&sights) {
-        assert_eq!(probe::sight(heights, station, look), Ok(there.into()), "station {station}, {look:?}, {heights:?}");
+        assert_eq!(proved::sight(heights, station, look), Ok(there.into()), "station {station}, {look:?}, {heights:?}");
     }
     sights
 }
@@ -55,7 +55,7 @@ fn compare_all(random: &mut Random, heights: &[i32], look: Look) -> Vec<u16> {
 /// The heights of an accepted road, as the program fills them.
 fn program_heights(road: &Road) -> Vec<i32> {
     let mut heights = vec![0; road.length as usize + 1];
-    assert_eq!(probe::heights(&bytes(road), &mut heights), Ok(road.length + 1), "{road:?}");
+    assert_eq!(proved::heights(&bytes(road), &mut heights), Ok(road.length + 1), "{road:?}");
     heights
 }
 
@@ -277,7 +277,7 @@ fn accuracy_rule() {
         let object = random.one_of(&[1, 2, 5, 50, 500, OBJECT, 50_000]);
         let look = look(eye, object, random.one_of(&[60, 60, 20, 8_000]));
         let mut sights = vec![0; road.length as usize + 1];
-        assert_eq!(probe::profile(&program_heights(&road), look, &mut sights), Ok(road.length + 1));
+        assert_eq!(proved::profile(&program_heights(&road), look, &mut sights), Ok(road.length + 1));
         let exact = exact_heights(&road);
         let lower = Look { eye: eye - 1, object: object - 1, ..look };
         let higher = Look { eye: eye + 1, object: object + 1, ..look };

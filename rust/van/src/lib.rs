@@ -18,8 +18,6 @@
 
 #![deny(missing_docs)]
 
-mod refusal;
-
 pub use refusal::Refusal;
 
 /// Bit 0 of a mark, letter S: the station is judged for stopping, and stopping sight is lacking.
@@ -67,7 +65,7 @@ extern "C" {
 /// ```
 pub fn required_distance(speed: u32, purpose: u32) -> Result<u32, Refusal> {
     // SAFETY: it takes any two numbers and touches no memory of the caller.
-    refusal::answer(unsafe { vcp_required_distance(speed, purpose) })
+    refusal::answer(unsafe { vcp_required_distance(speed, purpose) }.into())
 }
 
 /// The least even length in metres of a crest over which an object is seen from a sight distance in metres. The drop in
@@ -88,7 +86,7 @@ pub fn required_distance(speed: u32, purpose: u32) -> Result<u32, Refusal> {
 /// ```
 pub fn crest_length(drop: u32, sight: u32, eye: u32, object: u32) -> Result<u32, Refusal> {
     // SAFETY: it takes any four numbers and touches no memory of the caller.
-    refusal::answer(unsafe { vcp_crest_length(drop, sight, eye, object) })
+    refusal::answer(unsafe { vcp_crest_length(drop, sight, eye, object) }.into())
 }
 
 /// Writes the mark of each station of a road file's road, from station 0 on, and answers how many stations there are. Places
@@ -133,7 +131,7 @@ pub fn mark_road_file(file: &[u8], marks: &mut [u8]) -> Result<u32, Refusal> {
     // SAFETY: each pointer is that of a slice and comes with the slice's own length, so it is not null, and all its bytes
     // are there and are at most isize::MAX. It reads `file` and writes `marks`; a mutable borrow overlaps no other. It
     // keeps neither pointer.
-    refusal::answer(unsafe { vcp_mark_road_file(file.as_ptr(), file.len(), marks.as_mut_ptr(), marks.len()) })
+    refusal::answer(unsafe { vcp_mark_road_file(file.as_ptr(), file.len(), marks.as_mut_ptr(), marks.len()) }.into())
 }
 
 // The README's example compiles.

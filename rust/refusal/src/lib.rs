@@ -1,4 +1,7 @@
-//! Document 01's refusals.
+//! Document 01's refusals: why a proved function gives no answer.
+
+#![forbid(unsafe_code)]
+#![deny(missing_docs)]
 
 use std::error::Error;
 use std::fmt;
@@ -6,7 +9,7 @@ use std::fmt;
 /// Why there is no answer: one of document 01's numbers, 1 to 23, with its reason in words.
 ///
 /// ```
-/// let refusal = vcp::required_distance(19, 0).unwrap_err();
+/// let refusal = refusal::answer(-6).unwrap_err();
 /// assert_eq!(refusal.number(), 6);
 /// assert_eq!(refusal.to_string(), "refused 6: the speed is not 20 to 130 km/h");
 /// ```
@@ -63,9 +66,20 @@ impl fmt::Display for Refusal {
 
 impl Error for Refusal {}
 
-/// An answer in the van's form, where a refusal is minus its number.
-pub(crate) fn answer(signed: i32) -> Result<u32, Refusal> {
-    u32::try_from(signed).map_err(|_| Refusal { number: signed.unsigned_abs() })
+/// An answer as the exported functions give it, where a refusal is minus its number.
+///
+/// # Errors
+/// The refusal.
+///
+/// # Panics
+/// Where the number does not fit 32 bits: each answer does.
+pub fn answer(signed: i64) -> Result<u32, Refusal> {
+    let number = u32::try_from(signed.unsigned_abs()).expect("an answer fits 32 bits");
+    if signed < 0 {
+        Err(Refusal { number })
+    } else {
+        Ok(number)
+    }
 }
 
 #[cfg(test)]
@@ -75,9 +89,9 @@ mod tests {
     #[test]
     fn the_sign_parts_answers_from_refusals() {
         assert_eq!(answer(0), Ok(0));
-        assert_eq!(answer(i32::MAX), Ok(2_147_483_647));
+        assert_eq!(answer(2_147_483_647), Ok(2_147_483_647));
         assert_eq!(answer(-1), Err(Refusal { number: 1 }));
-        assert_eq!(answer(i32::MIN), Err(Refusal { number: 2_147_483_648 }));
+        assert_eq!(answer(-23), Err(Refusal { number: 23 }));
     }
 
     #[test]

@@ -1,0 +1,7 @@
+//! Links the proved crates of exports.
+
+include!("../link.rs");
+
+fn main() {
+    link(&["sight_exports", "marks_exports", "file_exports", "listing_exports"]);
+}

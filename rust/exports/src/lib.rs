@@ -1,0 +1,144 @@
+//! The proved operations that the van does not call, safe to call from the command `vcp` and from the tests: the functions
+//! of the crates `sight_exports`, `marks_exports`, `file_exports` and `listing_exports`.
+//!
+//! Units are those of document 01: metres along the road, h-units (tenths of a millimetre) for heights, km/h.
+//!
+//! Each function takes any input and ends: it answers, or refuses by one of document 01's numbers, and a refusal leaves a
+//! lent list as it was. A list that is filled has the answer as the number of places that were written; later ones stay.
+
+#![deny(missing_docs)]
+
+pub use refusal::Refusal;
+
+/// So many bytes of a road file are enough: the longest has one fewer, and of a longer one no more is needed.
+pub const ENOUGH_BYTES: usize = 209;
+
+/// Bytes that hold any listing.
+pub const GREATEST_LISTING: usize = 280_092;
+
+/// The longest list of heights or marks: the stations of the longest road.
+pub const GREATEST_LIST: usize = 8_001;
+
+/// The farthest distance that is looked at, in metres.
+pub const GREATEST_FARTHEST: u32 = 8_000;
+
+/// Numbers that hold the ends of all zones of any list of marks.
+pub const MOST_ENDS: usize = GREATEST_LIST + 1;
+
+/// The height of the eye that roads are marked with, 1.08 m.
+pub const EYE_HEIGHT: u32 = 10_800;
+
+/// The height of the object that roads are marked with, 0.60 m.
+pub const OBJECT_HEIGHT: u32 = 6_000;
+
+// A test compares these declarations with the crates' src/lib.rt.
+extern "C" {
+    fn vcp_sight(heights: *const i32, heights_length: usize, station: u32, eye: u32, object: u32, farthest: u32)
+        -> i64;
+    fn vcp_sight_profile(
+        heights: *const i32,
+        heights_length: usize,
+        eye: u32,
+        object: u32,
+        farthest: u32,
+        sights: *mut u16,
+        sights_length: usize,
+    ) -> i64;
+    fn vcp_marks(
+        speed: u32,
+        purpose: u32,
+        heights: *const i32,
+        heights_length: usize,
+        list: *mut u8,
+        list_length: usize,
+    ) -> i64;
+    fn vcp_zones(marks: *const u8, marks_length: usize, bit: u32, list: *mut u16, list_length: usize) -> i64;
+    fn vcp_rewrite(file: *const u8, file_length: usize, out: *mut u8, out_length: usize) -> i64;
+    fn vcp_file_heights(file: *const u8, file_length: usize, list: *mut i32, list_length: usize) -> i64;
+    fn vcp_list_road_file(file: *const u8, file_length: usize, text: *mut u8, text_length: usize) -> i64;
+}
+
+/// The heights of eye and object above the road, and the farthest distance that is looked at.
+#[derive(Clone, Copy, Debug, PartialEq, Eq)]
+pub struct Look {
+    /// The height of the eye.
+    pub eye: u32,
+    /// The height of the object.
+    pub object: u32,
+    /// The farthest distance.
+    pub farthest: u32,
+}
+
+/// The available sight from a station over these heights.
+///
+/// # Errors
+/// Refused 19 if the list is empty or longer than [`GREATEST_LIST`], 20 if the station is beyond the last, 17 if either
+/// height is not 1 to 50,000, 21 if the farthest distance is not 1 to [`GREATEST_FARTHEST`].
+pub fn sight(heights: &[i32], station: u32, look: Look) -> Result<u32, Refusal> {
+    let Look { eye, object, farthest } = look;
+    // SAFETY: the pointer is that of a slice and comes with its length; nothing is written or kept.
+    refusal::answer(unsafe { vcp_sight(heights.as_ptr(), heights.len(), station, eye, object, farthest) })
+}
+
+/// Fills the available sight from each station over these heights.
+///
+/// # Errors
+/// Refused 19, 17, 21 as [`sight`] is, then 14 if the list of sights is shorter than the heights.
+pub fn sight_profile(heights: &[i32], look: Look, sights: &mut [u16]) -> Result<u32, Refusal> {
+    let Look { eye, object, farthest } = look;
+    // SAFETY: each pointer is that of a slice and comes with its length; a mutable borrow overlaps no other; neither is kept.
+    refusal::answer(unsafe {
+        vcp_sight_profile(heights.as_ptr(), heights.len(), eye, object, farthest, sights.as_mut_ptr(), sights.len())
+    })
+}
+
+/// Marks each station of these heights, for a speed and a decision purpose. `vcp::mark_road_file` says what the bits mean.
+///
+/// # Errors
+/// Refused 6 if the speed is not 20 to 130, 7 if the purpose is not 1 to 5, 19 if the heights are none or more than
+/// [`GREATEST_LIST`], 14 if the list of marks is shorter than the heights.
+pub fn marks(speed: u32, purpose: u32, heights: &[i32], list: &mut [u8]) -> Result<u32, Refusal> {
+    // SAFETY: as for `sight_profile`.
+    refusal::answer(unsafe {
+        vcp_marks(speed, purpose, heights.as_ptr(), heights.len(), list.as_mut_ptr(), list.len())
+    })
+}
+
+/// Writes the first and the last station of each zone of a bit of the marks, in pairs, and answers how many zones there are.
+/// A list of [`MOST_ENDS`] numbers holds them all.
+///
+/// # Errors
+/// Refused 22 if the bit number is over 4, 19 if the marks are none or more than [`GREATEST_LIST`], 23 if the list holds
+/// fewer than two numbers for each zone.
+pub fn zones(marks: &[u8], bit: u32, list: &mut [u16]) -> Result<u32, Refusal> {
+    // SAFETY: as for `sight_profile`.
+    refusal::answer(unsafe { vcp_zones(marks.as_ptr(), marks.len(), bit, list.as_mut_ptr(), list.len()) })
+}
+
+/// Reads a road file and writes its road again: the same bytes.
+///
+/// # Errors
+/// Refused 1 to 13 as reading the file refuses it, then 14 if the buffer is too short.
+pub fn rewrite(file: &[u8], out: &mut [u8]) -> Result<u32, Refusal> {
+    // SAFETY: as for `sight_profile`.
+    refusal::answer(unsafe { vcp_rewrite(file.as_ptr(), file.len(), out.as_mut_ptr(), out.len()) })
+}
+
+/// Reads a road file and fills the heights of its road, one a station. A list of [`GREATEST_LIST`] holds any road's.
+///
+/// # Errors
+/// Refused 1 to 13 as reading the file refuses it, then 14 if the list has fewer places than the road has stations.
+pub fn file_heights(file: &[u8], list: &mut [i32]) -> Result<u32, Refusal> {
+    // SAFETY: as for `sight_profile`.
+    refusal::answer(unsafe { vcp_file_heights(file.as_ptr(), file.len(), list.as_mut_ptr(), list.len()) })
+}
+
+/// Writes the listing of a road file, for a refused one the line of its refusal. A buffer of [`GREATEST_LISTING`] bytes holds
+/// any. The call needs about 600 KiB of the thread's stack.
+///
+/// # Errors
+/// Refused 14 if the buffer is too short.
+pub fn list_road_file(file: &[u8], text: &mut [u8]) -> Result<u32, Refusal> {
+    // SAFETY: as for `sight_profile`.
+    refusal::answer(unsafe { vcp_list_road_file(file.as_ptr(), file.len(), text.as_mut_ptr(), text.len()) })
+}

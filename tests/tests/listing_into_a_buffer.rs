@@ -1,0 +1,47 @@
+//! The listing in a lent buffer: just long enough, longer, a byte too short and empty.
+
+use sight_tests::lent;
+use sight_tests::proved;
+use sight_tests::random::Random;
+use sight_tests::reference::file::bytes;
+use sight_tests::reference::listing::listing;
+use sight_tests::roads;
+
+/// Compares the listing in a buffer of so many bytes with the second calculation's. It is refused 14 where that does not fit.
+fn compare(random: &mut Random, file: &[u8], places: usize) {
+    let second = |buffer: &mut [u8]| {
+        let text = listing(file);
+        let place = buffer.get_mut(..text.len()).ok_or(14_u32)?;
+        place.copy_from_slice(text.as_bytes());
+        Ok(text.len() as u32)
+    };
+    let proved = |buffer: &mut [u8]| proved::listing(file, buffer);
+    let before = random.list(places, |bits| bits as u8);
+    let (answer, _) = lent::compare(&before, proved, second, format_args!("{file:02X?}"));
+    assert_eq!(answer.is_ok(), listing(file).len() <= places);
+}
+
+#[test]
+fn random_files() {
+    let mut random = Random::new(45);
+    for round in 0..500 {
+        let room = random.within(2..=100);
+        let file = match round % 4 {
+            0 => {
+                let refusal = random.within(1..=13);
+                roads::faulty_file(&mut random, &[refusal])
+            }
+            1 => bytes(&roads::breaks(&mut random, room)),
+            _ => {
+                let mut road = roads::run_of_crests(&mut random, room);
+                road.speed = random.one_of(&[20, 25, 30]);
+                bytes(&road)
+            }
+        };
+        let length = listing(&file).len();
+        let more = random.within(1..=40) as usize;
+        for places in [length, length + more, length - 1, 0] {
+            compare(&mut random, &file, places);
+        }
+    }
+}
