@@ -2,6 +2,8 @@
 
 use std::ops::RangeInclusive;
 
+use crate::decimal;
+
 /// A number of the road file: its name and unit in a text, with how many decimals at most, and its bytes in the file, where
 /// it is counted in units of the last decimal.
 #[derive(Clone, Copy)]
@@ -61,14 +63,8 @@ impl Field {
         format!("{} {}", self.decimal(number), self.unit).trim_end().to_string()
     }
 
-    /// A number in decimals, from units of the last one.
     fn decimal(&self, number: i64) -> String {
-        let digits = format!("{:0>width$}", number.unsigned_abs(), width = self.decimals + 1);
-        let (whole, decimals) = digits.split_at(digits.len() - self.decimals);
-        let kept = decimals.trim_end_matches('0').len().max(self.decimals.min(2));
-        let sign = if number < 0 { "-" } else { "" };
-        let point = if kept > 0 { "." } else { "" };
-        format!("{sign}{whole}{point}{}", &decimals[..kept])
+        decimal::write(number, self.decimals, 2)
     }
 
     /// Reads a number with its unit; answers what is wrong with it.
@@ -82,30 +78,12 @@ impl Field {
 
     /// Reads a number exactly, in units of the last decimal.
     fn read_decimal(&self, text: &str) -> Result<i64, String> {
-        if text.is_empty() {
-            return Err("the number is missing".to_string());
+        let number = decimal::read(text, self.decimals)?;
+        if self.range().contains(&number) {
+            return Ok(number);
         }
-        let size = text.strip_prefix('-').unwrap_or(text);
-        let (whole, decimals) = size.split_once('.').map_or((size, None), |(whole, decimals)| (whole, Some(decimals)));
-        let digits = |part: &str| !part.is_empty() && part.bytes().all(|letter| letter.is_ascii_digit());
-        if !digits(whole) || !decimals.is_none_or(digits) {
-            return Err(format!("{text:?} is no number"));
-        }
-        let decimals = decimals.unwrap_or_default();
-        if decimals.len() > self.decimals {
-            return Err(match self.decimals {
-                0 => format!("{text:?} is not whole"),
-                most => format!("{text:?} has more than {most} decimals"),
-            });
-        }
-        let sign = &text[..text.len() - size.len()];
-        let number = format!("{sign}{whole}{decimals:0<width$}", width = self.decimals);
-        // One that does not fit 64 bits does not fit the file either.
-        let fitting = number.parse().ok().filter(|number| self.range().contains(number));
-        fitting.ok_or_else(|| {
-            let [least, greatest] = [self.range().start(), self.range().end()].map(|&number| self.decimal(number));
-            format!("{text:?} does not fit the road file, which has room for {least} to {greatest}")
-        })
+        let [least, greatest] = [self.range().start(), self.range().end()].map(|&number| self.decimal(number));
+        Err(format!("{text:?} does not fit the road file, which has room for {least} to {greatest}"))
     }
 
     fn check_unit(&self, unit: &str) -> Result<(), String> {

@@ -27,11 +27,12 @@
 
 use std::fmt;
 
-use vcp::{Refusal, MOST_STATIONS};
+use exports::{Refusal, ENOUGH_BYTES};
 
 use crate::field::{Field, CURVE, HEAD};
 use crate::lines::{read_lines, Road};
 
+pub mod decimal;
 mod field;
 mod lines;
 
@@ -42,6 +43,8 @@ pub struct Fault {
     pub line: usize,
     /// What is wrong, in words; a refusal of the road with its number.
     pub reason: String,
+    /// Whether it is the proved reader that refuses the road, and not the text that cannot be read.
+    pub refused: bool,
 }
 
 impl fmt::Display for Fault {
@@ -80,19 +83,48 @@ pub fn road_file(text: &str) -> Result<Vec<u8>, Vec<Fault>> {
 /// assert_eq!(roadtext::road_text(b"VCP").unwrap_err().number(), 1);
 /// ```
 pub fn road_text(file: &[u8]) -> Result<String, Refusal> {
-    accept(file)?;
-    let (head, curves) = (&file[START.len()..], &file[HEAD_BYTES..]);
+    let road = road_numbers(file)?;
     let mut text = String::new();
-    for (field, number) in HEAD.iter().zip(numbers(&HEAD, head)) {
-        text += &format!("{} {number}\n", field.name);
+    for (field, number) in HEAD.iter().zip(road.head) {
+        text += &format!("{} {}\n", field.name, field.text(number));
     }
-    if !curves.is_empty() {
+    if !road.curves.is_empty() {
         text += "# PVI, length, grade out\n";
     }
-    for record in curves.chunks_exact(CURVE_BYTES) {
-        text += &format!("curve {}\n", numbers(&CURVE, record).join(", "));
+    for curve in road.curves {
+        let numbers = [0, 1, 2].map(|place| CURVE[place].text(curve[place]));
+        text += &format!("curve {}\n", numbers.join(", "));
     }
     Ok(text)
+}
+
+/// The numbers of a road, in the file's units and in its order.
+#[derive(Clone, Debug, PartialEq, Eq)]
+pub struct Numbers {
+    /// Speed, purpose, length, start height and first grade.
+    pub head: [i64; 5],
+    /// The PVI, the length and the grade out of each curve.
+    pub curves: Vec<[i64; 3]>,
+}
+
+/// The numbers of a road file.
+///
+/// # Errors
+/// The proved reader's refusal of the file.
+pub fn road_numbers(file: &[u8]) -> Result<Numbers, Refusal> {
+    accept(file)?;
+    let curves = file[HEAD_BYTES..].chunks_exact(CURVE_BYTES).map(|record| numbers(&CURVE, record));
+    Ok(Numbers { head: numbers(&HEAD, &file[START.len()..]), curves: curves.collect() })
+}
+
+/// Whether the proved reader accepts a road file. What it accepts the proved writer writes again, and these bytes are answered.
+///
+/// # Errors
+/// Its refusal.
+pub fn accept(file: &[u8]) -> Result<Vec<u8>, Refusal> {
+    let mut written = [0; ENOUGH_BYTES];
+    let length = exports::rewrite(file, &mut written)?;
+    Ok(written[..length as usize].to_vec())
 }
 
 /// The letters and the version that a road file begins with.
@@ -102,19 +134,13 @@ const START: [u8; 5] = *b"VCP\x01\x00";
 const HEAD_BYTES: usize = 16;
 const CURVE_BYTES: usize = 6;
 
-/// The proved reader's verdict on a file.
-fn accept(file: &[u8]) -> Result<(), Refusal> {
-    vcp::mark_road_file(file, &mut [0; MOST_STATIONS]).map(drop)
-}
-
-/// The numbers that these bytes begin with, as a text has them.
-fn numbers(fields: &[Field], mut bytes: &[u8]) -> Vec<String> {
-    let number = |field: &Field| {
+/// The numbers that these bytes begin with.
+fn numbers<const MANY: usize>(fields: &[Field; MANY], mut bytes: &[u8]) -> [i64; MANY] {
+    fields.map(|field| {
         let (own, others) = bytes.split_at(field.bytes);
         bytes = others;
-        field.text(field.number(own))
-    };
-    fields.iter().map(number).collect()
+        field.number(own)
+    })
 }
 
 impl Road {
@@ -138,8 +164,10 @@ impl Road {
     /// at fault; or, where that is no curve at all, a number before them.
     fn judged_file(&self) -> Result<Vec<u8>, Fault> {
         let all = self.curves.len();
-        let file = self.file(all);
-        let Err(refusal) = accept(&file) else { return Ok(file) };
+        let refusal = match accept(&self.file(all)) {
+            Ok(file) => return Ok(file),
+            Err(refusal) => refusal,
+        };
         let curves = (0..all).find(|&curves| accept(&self.file(curves)) == Err(refusal)).unwrap_or(all);
         let line = match (curves, refusal.number()) {
             (0, 6) => self.head[0].line,
@@ -149,6 +177,6 @@ impl Road {
             (0, _) => self.head[4].line,
             (_, _) => self.curves[curves - 1].line,
         };
-        Err(Fault { line, reason: refusal.to_string() })
+        Err(Fault { line, reason: refusal.to_string(), refused: true })
     }
 }

@@ -80,12 +80,13 @@ pub fn read_lines(text: &str) -> Result<Road, Vec<Fault>> {
     for (line, text) in (1..).zip(text.lines()) {
         last = line;
         if let Err(reason) = items.read(line, text) {
-            faults.push(Fault { line, reason });
+            faults.push(Fault { line, reason, refused: false });
         }
     }
     for (field, item) in HEAD.iter().zip(&items.head) {
         if item.is_none() {
-            faults.push(Fault { line: last, reason: format!("the line {} is missing", field.name) });
+            let reason = format!("the line {} is missing", field.name);
+            faults.push(Fault { line: last, reason, refused: false });
         }
     }
     match items.head {

@@ -201,7 +201,7 @@ const GOOD: [&str; 7] = [
 const NAMES: [&str; 5] = ["speed", "purpose", "length", "start height", "first grade"];
 
 fn fault(line: usize, reason: &str) -> Fault {
-    Fault { line, reason: reason.to_string() }
+    Fault { line, reason: reason.to_string(), refused: reason.starts_with("refused ") }
 }
 
 /// The good text with one line changed has this fault, on that line, and no other.
@@ -303,7 +303,7 @@ fn numbers_that_do_not_fit() {
             let mut lines = GOOD.map(str::to_string);
             lines[line - 1] = format!("{begin}{number}{end}");
             let faults = road_file(&lines.join("\n")).err().unwrap_or_default();
-            assert!(faults.iter().all(|fault| fault.reason.starts_with("refused ")), "{faults:?}");
+            assert!(faults.iter().all(|fault| fault.refused), "{faults:?}");
         }
     }
 }
@@ -370,7 +370,7 @@ fn refused_roads() {
         let written = write(&mut random, &road);
         let Some((line, refusal)) = blamed(&road, &written) else { continue };
         let faults = road_file(&written.text).expect_err("the road is refused");
-        let [Fault { line: at, reason }] = &faults[..] else { panic!("{faults:?}") };
+        let [Fault { line: at, reason, refused: true }] = &faults[..] else { panic!("{faults:?}") };
         assert_eq!(*at, line, "{reason}\n{}", written.text);
         assert!(reason.starts_with(&format!("refused {refusal}: ")), "{reason}\n{}", written.text);
         met[refusal as usize] += 1;
