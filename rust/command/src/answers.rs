@@ -1,0 +1,164 @@
+//! What each command answers.
+
+use std::io::{self, IsTerminal};
+use std::path::Path;
+
+use exports::{Refusal, EYE_HEIGHT, GREATEST_LISTING, OBJECT_HEIGHT};
+use picture::{Curve, Profile};
+
+use crate::arguments::{Given, GRADE, HEIGHT, WHOLE};
+use crate::judgement::Judgement;
+use crate::output::{self, Output};
+use crate::survey::Survey;
+use crate::trouble::{shown, Trouble, ANSWERED};
+use crate::{complain, input, purpose, report, tables};
+
+/// Answers for each file in turn, and goes on after one that is refused or cannot be read. The status is the greatest.
+fn for_each_file(
+    given: &Given,
+    output: &mut Output,
+    mut answer: impl FnMut(&Path, &mut Output) -> Result<(), Trouble>,
+) -> Result<u8, Trouble> {
+    let mut status = ANSWERED;
+    for file in given.files() {
+        match answer(file, output) {
+            Ok(()) => {}
+            Err(Trouble::Unread) => break,
+            Err(trouble @ Trouble::Unwritten(_)) => return Err(trouble),
+            Err(trouble) => {
+                // What was answered before stands before the complaint.
+                let written = output.flush();
+                complain(&trouble);
+                status = status.max(trouble.status());
+                match written {
+                    Err(Trouble::Unread) => break,
+                    written => written?,
+                }
+            }
+        }
+    }
+    Ok(status)
+}
+
+/// Writes the one answer of a command, into the file that `-o` names or to standard output.
+pub fn write_answer(given: &Given, output: &mut Output, bytes: &[u8]) -> Result<u8, Trouble> {
+    match given.output_file() {
+        Some(path) if output::is_same_file(path, given.file()) => {
+            return Err(Trouble::failed(format!("{}: it would replace what it is made from", shown(path))));
+        }
+        Some(path) => output::write_file(path, bytes).map_err(|error| Trouble::with_file(path, &error))?,
+        None => output.write(bytes)?,
+    }
+    Ok(ANSWERED)
+}
+
+/// `vcp list`.
+pub fn list(given: &Given, output: &mut Output) -> Result<u8, Trouble> {
+    let mut text = vec![0; GREATEST_LISTING];
+    for_each_file(given, output, |path, output| {
+        let file = input::road_file(path)?;
+        let length = exports::list_road_file(&file, &mut text).map_err(Trouble::refused(path))?;
+        output.write(&text[..length as usize])?;
+        roadtext::accept(&file).map(drop).map_err(Trouble::refused(path))
+    })
+}
+
+/// `vcp report`.
+pub fn report(given: &Given, output: &mut Output) -> Result<u8, Trouble> {
+    let mut first = true;
+    for_each_file(given, output, |path, output| {
+        let judgement = Judgement::of_road(&input::road_file(path)?).map_err(Trouble::refused(path))?;
+        let between = if first { "" } else { "\n" };
+        first = false;
+        output.write(format!("{between}{}", report::report(&shown(path), &judgement, 0)).as_bytes())
+    })
+}
+
+/// `vcp check`.
+pub fn check(given: &Given, output: &mut Output) -> Result<u8, Trouble> {
+    let speed = given.needed("--speed", given.number("--speed", WHOLE)?)?;
+    let purpose = given.needed("--purpose", given.word("--purpose")?)?;
+    let purpose = purpose::read(purpose).map_err(|reason| given.wrong(format!("--purpose: {reason}")))?;
+    let path = given.file();
+    let survey = Survey::read(path, input::open(path)?)?;
+    let judgement = Judgement::of_heights(speed, purpose, &survey.heights).map_err(Trouble::refused(path))?;
+    write_answer(given, output, report::report(&shown(path), &judgement, survey.first).as_bytes())
+}
+
+/// The picture of a road file.
+fn picture_of(file: &[u8]) -> Result<String, Refusal> {
+    let road = roadtext::road_numbers(file)?;
+    let judgement = Judgement::of_road(file)?;
+    let curve = |&[pvi, length, grade_out]: &[i64; 3]| Curve {
+        pvi: pvi as u32,
+        length: length as u32,
+        grade_out: grade_out as i32,
+    };
+    let [.., first_grade] = road.head;
+    Ok(picture::svg(&Profile {
+        speed: judgement.speed,
+        purpose: judgement.purpose,
+        stopping: judgement.stopping,
+        decision: judgement.decision,
+        first_grade: first_grade as i32,
+        curves: &road.curves.iter().map(curve).collect::<Vec<_>>(),
+        heights: &tables::heights_of(file)?,
+        zones: &judgement.zones,
+    }))
+}
+
+/// `vcp plot`.
+pub fn plot(given: &Given, output: &mut Output) -> Result<u8, Trouble> {
+    let picture = picture_of(&input::road_file(given.file())?).map_err(Trouble::refused(given.file()))?;
+    write_answer(given, output, picture.as_bytes())
+}
+
+/// `vcp road`.
+pub fn road(given: &Given, output: &mut Output) -> Result<u8, Trouble> {
+    if given.output_file().is_none() && io::stdout().is_terminal() {
+        return Err(given.wrong("a road file is not for a terminal: name a file with -o".to_string()));
+    }
+    let path = given.file();
+    let file = roadtext::road_file(&input::text(path)?).map_err(|faults| {
+        let lines: Vec<String> = faults.iter().map(|fault| format!("{}:{fault}", shown(path))).collect();
+        match &faults[..] {
+            [fault] if fault.refused => Trouble::Refused(lines.concat()),
+            _ => Trouble::Failed(lines),
+        }
+    })?;
+    write_answer(given, output, &file)
+}
+
+/// `vcp text`.
+pub fn text(given: &Given, output: &mut Output) -> Result<u8, Trouble> {
+    let text = roadtext::road_text(&input::road_file(given.file())?).map_err(Trouble::refused(given.file()))?;
+    write_answer(given, output, text.as_bytes())
+}
+
+/// Prints a number.
+fn print(output: &mut Output, number: u32) -> Result<u8, Trouble> {
+    output.write(format!("{number}\n").as_bytes()).map(|()| ANSWERED)
+}
+
+/// `vcp distance`.
+pub fn distance(given: &Given, output: &mut Output) -> Result<u8, Trouble> {
+    let wrong = |reason: String| given.wrong(reason);
+    let speed = WHOLE.read(given.operand(0)?).map_err(|reason| wrong(format!("SPEED: {reason}")))?;
+    let purpose = purpose::read(given.operand(1)?).map_err(|reason| wrong(format!("PURPOSE: {reason}")))?;
+    print(output, vcp::required_distance(speed, purpose).map_err(Trouble::refused("vcp distance"))?)
+}
+
+/// `vcp crest`.
+pub fn crest(given: &Given, output: &mut Output) -> Result<u8, Trouble> {
+    let drop = given.needed("--drop", given.number("--drop", GRADE)?)?;
+    let eye = given.number("--eye", HEIGHT)?.unwrap_or(EYE_HEIGHT);
+    let object = given.number("--object", HEIGHT)?.unwrap_or(OBJECT_HEIGHT);
+    let refused = Trouble::refused("vcp crest");
+    let sight = match (given.number("--sight", WHOLE)?, given.number("--speed", WHOLE)?) {
+        (Some(sight), None) => sight,
+        (None, Some(speed)) => vcp::required_distance(speed, purpose::STOPPING).map_err(&refused)?,
+        (None, None) => return Err(given.wrong("--sight or --speed is missing".to_string())),
+        (Some(_), Some(_)) => return Err(given.wrong("--sight and --speed exclude each other".to_string())),
+    };
+    print(output, vcp::crest_length(drop, sight, eye, object).map_err(&refused)?)
+}

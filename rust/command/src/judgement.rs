@@ -1,0 +1,64 @@
+//! What the proved functions say of a road file, or of heights.
+
+use exports::{Refusal, GREATEST_LISTING, MOST_ENDS};
+
+use crate::purpose;
+
+/// The letters of the zones, in the order of their bits.
+const LETTERS: [u8; 5] = *b"SDRsd";
+
+/// The first and last stations of the zones of each letter.
+pub type Zones = [Vec<[u16; 2]>; 5];
+
+/// The distances that are needed, and the zones.
+pub struct Judgement {
+    pub speed: u32,
+    pub purpose: u32,
+    pub stopping: u32,
+    pub decision: u32,
+    /// The number of stations.
+    pub stations: u32,
+    pub zones: Zones,
+}
+
+impl Judgement {
+    /// That of a road file, from its listing.
+    pub fn of_road(file: &[u8]) -> Result<Judgement, Refusal> {
+        let [_, purpose, length, ..] = roadtext::road_numbers(file)?.head;
+        let mut text = vec![0; GREATEST_LISTING];
+        let bytes = exports::list_road_file(file, &mut text)?;
+        let mut lines = text[..bytes as usize].split(|&byte| byte == b'\n');
+        let [_, speed, stopping, decision] = numbers(lines.next().unwrap_or_default());
+        let mut zones = Zones::default();
+        for line in lines {
+            if let Some(bit) = LETTERS.iter().position(|letter| line.first() == Some(letter)) {
+                zones[bit].push(numbers(line).map(|station| station as u16));
+            }
+        }
+        Ok(Judgement { speed, purpose: purpose as u32, stopping, decision, stations: length as u32 + 1, zones })
+    }
+
+    /// That of heights, one a metre.
+    pub fn of_heights(speed: u32, purpose: u32, heights: &[i32]) -> Result<Judgement, Refusal> {
+        let mut marks = vec![0; heights.len()];
+        let stations = exports::marks(speed, purpose, heights, &mut marks)?;
+        let stopping = vcp::required_distance(speed, purpose::STOPPING)?;
+        let decision = vcp::required_distance(speed, purpose)?;
+        let mut zones = Zones::default();
+        let mut ends = [0; MOST_ENDS];
+        for (bit, zones) in (0..).zip(&mut zones) {
+            let many = exports::zones(&marks, bit, &mut ends)? as usize;
+            zones.extend(ends[..2 * many].chunks_exact(2).map(|pair| [pair[0], pair[1]]));
+        }
+        Ok(Judgement { speed, purpose, stopping, decision, stations, zones })
+    }
+}
+
+/// The numbers behind the first word of a line of a listing.
+fn numbers<const MANY: usize>(line: &[u8]) -> [u32; MANY] {
+    let mut items = line.split(|&byte| byte == b' ').skip(1);
+    [(); MANY].map(|()| {
+        let digits = items.next().unwrap_or_default();
+        digits.iter().fold(0, |number, digit| 10 * number + u32::from(digit - b'0'))
+    })
+}

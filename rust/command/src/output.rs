@@ -1,0 +1,73 @@
+//! What a command writes: to standard output, or to a file that is whole or not there.
+
+use std::fs::{self, File, Metadata};
+use std::io::{self, BufWriter, StdoutLock, Write};
+use std::path::Path;
+use std::process;
+
+use crate::trouble::Trouble;
+
+/// Standard output, written in large pieces.
+pub struct Output {
+    standard: BufWriter<StdoutLock<'static>>,
+    /// Whether a piece could not be written: then no other is tried.
+    ended: bool,
+}
+
+impl Output {
+    pub fn standard() -> Output {
+        Output { standard: BufWriter::with_capacity(1 << 16, io::stdout().lock()), ended: false }
+    }
+
+    fn go_on(&mut self, write: impl FnOnce(&mut dyn Write) -> io::Result<()>) -> Result<(), Trouble> {
+        if self.ended {
+            return Ok(());
+        }
+        write(&mut self.standard).map_err(|error| {
+            self.ended = true;
+            Trouble::with_output(&error)
+        })
+    }
+
+    pub fn write(&mut self, bytes: &[u8]) -> Result<(), Trouble> {
+        self.go_on(|standard| standard.write_all(bytes))
+    }
+
+    pub fn flush(&mut self) -> Result<(), Trouble> {
+        self.go_on(|standard| standard.flush())
+    }
+}
+
+/// Whether two names stand for the same file.
+pub fn is_same_file(one: &Path, other: &Path) -> bool {
+    fs::canonicalize(one).is_ok_and(|one| fs::canonicalize(other).is_ok_and(|other| one == other))
+}
+
+/// Writes a file. What is no plain file, as a device or a named pipe, takes the bytes as they come.
+pub fn write_file(path: &Path, bytes: &[u8]) -> io::Result<()> {
+    match fs::metadata(path) {
+        Ok(there) if there.is_file() => {
+            // One that may not be written is not replaced either.
+            File::options().write(true).open(path)?;
+            write_whole(&fs::canonicalize(path)?, bytes, Some(&there))
+        }
+        Ok(_) => File::options().write(true).open(path)?.write_all(bytes),
+        Err(_) => write_whole(path, bytes, None),
+    }
+}
+
+/// Writes a plain file whole or not at all: under a name of its own beside its place, and then renamed. A file that it
+/// replaces hands on its permissions.
+fn write_whole(path: &Path, bytes: &[u8], before: Option<&Metadata>) -> io::Result<()> {
+    let beside = path.with_file_name(format!(".vcp-{}", process::id()));
+    let mut file = File::create_new(&beside)?;
+    let written = before
+        .map_or(Ok(()), |before| file.set_permissions(before.permissions()))
+        .and_then(|()| file.write_all(bytes))
+        .and_then(|()| file.sync_all())
+        .and_then(|()| fs::rename(&beside, path));
+    if written.is_err() {
+        let _ = fs::remove_file(&beside);
+    }
+    written
+}

@@ -1,0 +1,95 @@
+//! A judgement in words, in columns that line up.
+
+use crate::judgement::Judgement;
+use crate::purpose;
+
+/// What the zones of each letter are.
+const ZONES: [&str; 5] = [
+    "stopping sight lacking",
+    "decision sight lacking",
+    "reduced decision zone",
+    "stopping not judged",
+    "decision not judged",
+];
+
+/// The places of the zones where sight is lacking and where it is not judged, for stopping and for the decision.
+const STOPPING: [usize; 2] = [0, 3];
+const DECISION: [usize; 2] = [1, 4];
+
+type Row = Vec<String>;
+
+/// Rows as lines: the first column to the left, the others to the right, two spaces between.
+fn lined_up(rows: &[Row]) -> String {
+    let columns = rows.iter().map(Vec::len).max().unwrap_or(0);
+    let width = |column: usize| rows.iter().filter_map(|row| row.get(column)).map(String::len).max().unwrap_or(0);
+    let widths: Vec<usize> = (0..columns).map(width).collect();
+    let line = |row: &Row| {
+        let items = row.iter().zip(&widths).enumerate().map(|(column, (item, &width))| match column {
+            0 => format!("{item:<width$}"),
+            _ => format!("   {item:>width$}"),
+        });
+        items.collect::<String>().trim_end().to_string() + "\n"
+    };
+    rows.iter().map(line).collect()
+}
+
+fn row<const MANY: usize>(items: [&str; MANY]) -> Row {
+    items.map(str::to_string).to_vec()
+}
+
+/// How many stations the zones of a letter have.
+fn stations(judgement: &Judgement, zone: usize) -> u32 {
+    judgement.zones[zone].iter().map(|&[first, last]| u32::from(last - first) + 1).sum()
+}
+
+/// A part of so many, in percent with one decimal, rounded.
+fn share(part: u32, all: u32) -> String {
+    match all {
+        0 => "-".to_string(),
+        _ => {
+            let tenths = (1_000 * u64::from(part) + u64::from(all) / 2) / u64::from(all);
+            format!("{}.{} %", tenths / 10, tenths % 10)
+        }
+    }
+}
+
+/// The row of a distance: on how much of the road it is judged, lacking and not judged.
+fn sum(judgement: &Judgement, name: &str, distance: u32, [lacking, not_judged]: [usize; 2]) -> Row {
+    let [lacking, not_judged] = [lacking, not_judged].map(|zone| stations(judgement, zone));
+    let judged = judgement.stations - not_judged;
+    let metres = |number: u32| format!("{number} m");
+    let share = share(lacking, judged);
+    vec![name.to_string(), metres(distance), metres(judged), metres(lacking), share, metres(not_judged)]
+}
+
+/// The rows of a letter's zones.
+fn zone_rows(judgement: &Judgement, zone: usize, first_station: u32) -> Vec<Row> {
+    let name = ZONES[zone].to_string();
+    if judgement.zones[zone].is_empty() {
+        return vec![vec![name, "nowhere".to_string()]];
+    }
+    let zones = judgement.zones[zone].iter().map(|&[first, last]| {
+        let [from, to] = [first, last].map(|station| (first_station + u32::from(station)).to_string());
+        vec![name.clone(), from, to, format!("{} m", last - first + 1)]
+    });
+    zones.collect()
+}
+
+/// The report of what is judged under this name, from its first station on.
+pub fn report(name: &str, judgement: &Judgement, first_station: u32) -> String {
+    let last_station = first_station + judgement.stations - 1;
+    let Judgement { speed, purpose, stopping, decision, .. } = *judgement;
+    let sums = [
+        row(["sight", "needed", "judged", "lacking", "share", "not judged"]),
+        sum(judgement, "stopping", stopping, STOPPING),
+        sum(judgement, "decision", decision, DECISION),
+    ];
+    let mut zones = vec![row(["zone", "from", "to", "length"])];
+    zones.extend((0..ZONES.len()).flat_map(|zone| zone_rows(judgement, zone, first_station)));
+    let purpose = purpose::name(purpose);
+    format!(
+        "{name}: stations {first_station} to {last_station}, {speed} km/h, {purpose}\n\n{}\n{}",
+        lined_up(&sums),
+        lined_up(&zones)
+    )
+}
