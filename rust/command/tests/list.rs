@@ -1,0 +1,123 @@
+//! `vcp list`: byte for byte the proved lister's listing, which the second calculation gives too.
+
+mod common;
+
+use std::fs;
+
+use common::{folder, run, run_with, Ended};
+use sight_tests::program;
+use sight_tests::random::Random;
+use sight_tests::reference::file::{bytes, read};
+use sight_tests::reference::listing::listing;
+use sight_tests::roads::{self, EXAMPLE};
+
+/// Any road file, good or faulty, runs of short crests first of all.
+fn any_file(random: &mut Random, round: u32) -> Vec<u8> {
+    match round % 8 {
+        0..=2 => {
+            let mut road = roads::run_of_crests(random, 100);
+            road.length += random.within(0..=100);
+            road.speed = random.one_of(&[20, 25, 30, 40]);
+            bytes(&road)
+        }
+        3..=5 => {
+            let room = random.one_of(&[1, 5, 40, 150]);
+            bytes(&roads::sparse(random, room))
+        }
+        // Many of these are long, and the second calculation is slow.
+        6 if random.once_in(10) => roads::careless_file(random),
+        _ => {
+            let refusal = random.within(1..=13);
+            roads::faulty_file(random, &[refusal])
+        }
+    }
+}
+
+/// What the command should say of files by these names.
+fn expected(files: &[(String, Vec<u8>)]) -> Ended {
+    let mut expected = Ended { output: String::new(), errors: String::new(), status: 0 };
+    for (name, file) in files {
+        expected.output += &listing(file);
+        if let Err(refusal) = read(file) {
+            expected.errors += &format!("{name}: refused {refusal}: ");
+            expected.status = 1;
+        }
+    }
+    expected
+}
+
+/// The errors without the reasons behind the numbers.
+fn without_reasons(errors: &str) -> String {
+    let lines =
+        errors.lines().map(|line| line.splitn(3, ": ").take(2).map(|part| format!("{part}: ")).collect::<String>());
+    lines.collect()
+}
+
+/// Many files in one call, good and refused ones: each has its listing, and each refused one its line.
+#[test]
+fn many_files() {
+    let folder = folder("list_many");
+    let mut random = Random::new(81);
+    let mut met = [0; 14];
+    for batch in 0..20 {
+        let files: Vec<(String, Vec<u8>)> =
+            (0..100).map(|round| (format!("{batch}-{round}.vcp"), any_file(&mut random, round))).collect();
+        for (name, file) in &files {
+            fs::write(folder.join(name), file).expect("a file is written");
+            met[read(file).err().unwrap_or(0) as usize] += 1;
+        }
+        let arguments: Vec<&str> = ["list"].into_iter().chain(files.iter().map(|(name, _)| name.as_str())).collect();
+        let ended = run(&folder, &arguments);
+        let ended = Ended { errors: without_reasons(&ended.errors), ..ended };
+        assert_eq!(ended, expected(&files));
+    }
+    assert!(met[0] > 1_000 && met[1..].iter().all(|&many| many > 5), "{met:?}");
+}
+
+/// What it prints is what the proved lister prints, of a refused file too.
+#[test]
+fn same_as_the_lister() {
+    let folder = folder("list_lister");
+    let mut random = Random::new(82);
+    for round in 0..400 {
+        let file = any_file(&mut random, round);
+        assert_eq!(run_with(&folder, &["list", "-"], &file).0.output, program::output("lister", &file), "{file:02X?}");
+    }
+}
+
+/// Document 01's example, from a file and from standard input.
+#[test]
+fn example_of_document_01() {
+    let folder = folder("list_example");
+    fs::write(folder.join("a.vcp"), EXAMPLE).expect("a file is written");
+    let text = "VCP 1 20 20 25\nS 83 95\nD 78 96\nR 78 82\nR 96 96\ns 281 300\nd 276 300\n";
+    common::expect(&folder, &["list", "a.vcp"], text);
+    common::expect(&folder, &["list", "--", "a.vcp"], text);
+    common::expect(&folder, &["list", "a.vcp", "a.vcp"], &text.repeat(2));
+    let ended = run_with(&folder, &["list", "-"], &EXAMPLE).0;
+    assert_eq!(ended, Ended { output: text.to_string(), errors: String::new(), status: 0 });
+}
+
+/// After a refused file, and one that is not there, it goes on; the status is that of the worst.
+#[test]
+fn goes_on_after_a_refused_file() {
+    let folder = folder("list_goes_on");
+    fs::write(folder.join("a.vcp"), EXAMPLE).expect("a file is written");
+    fs::write(folder.join("b.vcp"), &EXAMPLE[..21]).expect("a file is written");
+    let text = "VCP 1 20 20 25\nS 83 95\nD 78 96\nR 78 82\nR 96 96\ns 281 300\nd 276 300\n";
+    let refused = "b.vcp: refused 5: the file's total length is not 16 bytes and 6 for each curve\n";
+    let ended = run(&folder, &["list", "a.vcp", "b.vcp", "a.vcp"]);
+    assert_eq!(ended, Ended { output: format!("{text}refused 5\n{text}"), errors: refused.to_string(), status: 1 });
+    let ended = run(&folder, &["list", "c.vcp", "b.vcp", "a.vcp"]);
+    let errors = format!("c.vcp: No such file or directory\n{refused}");
+    assert_eq!(ended, Ended { output: format!("refused 5\n{text}"), errors, status: 2 });
+}
+
+/// A file's name stays on its line.
+#[test]
+fn names_that_hold_a_line_feed() {
+    let folder = folder("list_names");
+    fs::write(folder.join("a\nb.vcp"), b"").expect("a file is written");
+    let errors = "a\\nb.vcp: refused 1: the file has fewer than 16 bytes\n".to_string();
+    assert_eq!(run(&folder, &["list", "a\nb.vcp"]), Ended { output: "refused 1\n".to_string(), errors, status: 1 });
+}

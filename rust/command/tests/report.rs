@@ -1,0 +1,316 @@
+//! `vcp report` and `vcp check`: read back from their lines, and compared with the second calculation.
+
+mod common;
+
+use std::fs;
+
+use common::{expect, expect_error, expect_wrong, folder, root, run, run_with, Ended};
+use sight_tests::random::Random;
+use sight_tests::reference::distances::required_distance;
+use sight_tests::reference::file::bytes;
+use sight_tests::reference::marks::{marks, runs};
+use sight_tests::reference::road::{heights, Road};
+use sight_tests::roads::{self, EXAMPLE};
+
+const THREE_CRESTS: &str = "\
+three-crests.vcp: stations 0 to 1500, 90 km/h, decision A
+
+sight      needed   judged   lacking    share   not judged
+stopping    160 m   1341 m     297 m   22.1 %        160 m
+decision    170 m   1331 m     331 m   24.9 %        170 m
+
+zone                     from     to   length
+stopping sight lacking    454    567    114 m
+stopping sight lacking    602    687     86 m
+stopping sight lacking    722    818     97 m
+decision sight lacking    444    567    124 m
+decision sight lacking    590    687     98 m
+decision sight lacking    710    818    109 m
+reduced decision zone     444    453     10 m
+reduced decision zone     590    601     12 m
+reduced decision zone     710    721     12 m
+stopping not judged      1341   1500    160 m
+decision not judged      1331   1500    170 m
+";
+
+/// The road that the README shows, looked at by hand.
+#[test]
+fn three_crests() {
+    expect(&root().join("roads"), &["report", "three-crests.vcp"], THREE_CRESTS);
+}
+
+/// What a report says.
+#[derive(Debug, PartialEq)]
+struct Said {
+    stations: [u32; 2],
+    speed: u32,
+    purpose: char,
+    /// For stopping and the decision: needed, judged, lacking, not judged.
+    sums: [[u32; 4]; 2],
+    shares: [String; 2],
+    /// The zones of each letter: first, last, length.
+    zones: Vec<Vec<[u32; 3]>>,
+}
+
+const ZONES: [&str; 5] = [
+    "stopping sight lacking",
+    "decision sight lacking",
+    "reduced decision zone",
+    "stopping not judged",
+    "decision not judged",
+];
+
+/// The numbers of a line; what stands around them, as units, is passed over.
+fn numbers(text: &str) -> Vec<u32> {
+    text.split(|letter: char| !letter.is_ascii_digit()).filter_map(|digits| digits.parse().ok()).collect()
+}
+
+/// Reads a report under a name.
+fn read_back(name: &str, report: &str) -> Said {
+    let mut lines = report.lines();
+    let title = lines.next().and_then(|line| line.strip_prefix(name)).expect("the name stands first");
+    let [from, to, speed] = numbers(title)[..] else { panic!("{title}") };
+    let (_, purpose) = title.rsplit_once("decision ").expect("the purpose stands last");
+    assert_eq!([lines.next(), lines.next().map(|line| &line[..5]),], [Some(""), Some("sight")]);
+    let sums = ["stopping", "decision"].map(|word| {
+        let line = lines.next().and_then(|line| line.strip_prefix(word)).expect("a line of sums");
+        let items: Vec<&str> = line.split("   ").map(str::trim).filter(|item| !item.is_empty()).collect();
+        let metres = |place: usize| items[place].strip_suffix(" m").and_then(|item| item.parse().ok()).expect("metres");
+        ([metres(0), metres(1), metres(2), metres(4)], items[3].to_string())
+    });
+    assert_eq!([lines.next(), lines.next().map(|line| &line[..4])], [Some(""), Some("zone")]);
+    let mut zones = vec![Vec::new(); 5];
+    let mut last = 0;
+    for line in lines {
+        let zone = ZONES.iter().position(|zone| line.starts_with(zone)).expect("a zone in words");
+        assert!(zone >= last, "the letters in their order");
+        last = zone;
+        match numbers(line)[..] {
+            [first, last, length] => zones[zone].push([first, last, length]),
+            _ => assert!(line.ends_with("   nowhere") && zones[zone].is_empty(), "{line}"),
+        }
+    }
+    let [stopping, decision] = sums;
+    Said {
+        stations: [from, to],
+        speed,
+        purpose: purpose.chars().next().expect("a letter"),
+        sums: [stopping.0, decision.0],
+        shares: [stopping.1, decision.1],
+        zones,
+    }
+}
+
+/// A share in percent with one decimal, to the nearest tenth, halves up.
+fn share(lacking: u32, judged: u32) -> String {
+    if judged == 0 {
+        return "-".to_string();
+    }
+    let tenths = (0..=1_000).rev().find(|tenths| (2 * tenths - 1) * judged as i64 <= 2_000 * i64::from(lacking));
+    let tenths = tenths.expect("a share is not negative");
+    format!("{}.{} %", tenths / 10, tenths % 10)
+}
+
+/// What the second calculation says of heights, whose first is that of a station.
+fn second(speed: u32, purpose: u32, heights: &[i32], first: u32) -> Said {
+    let mut marked = vec![0; heights.len()];
+    marks(speed, purpose, heights, &mut marked).expect("the heights are marked");
+    let stations = |bit: u8| marked.iter().filter(|&&mark| mark >> bit & 1 == 1).count() as u32;
+    let all = heights.len() as u32;
+    let sum = |purpose: u32, bit: u8| {
+        let needed = required_distance(speed, purpose).expect("the speed is accepted");
+        [needed, all - stations(bit + 3), stations(bit), stations(bit + 3)]
+    };
+    let sums = [sum(0, 0), sum(purpose, 1)];
+    let zone = |[one, other]: [u16; 2]| {
+        [first + u32::from(one), first + u32::from(other), u32::from(other) - u32::from(one) + 1]
+    };
+    Said {
+        stations: [first, first + all - 1],
+        speed,
+        purpose: char::from(b'A' + purpose as u8 - 1),
+        sums,
+        shares: sums.map(|[_, judged, lacking, _]| share(lacking, judged)),
+        zones: (0..5).map(|bit| runs(&marked, bit).into_iter().map(zone).collect()).collect(),
+    }
+}
+
+fn heights_of(road: &Road) -> Vec<i32> {
+    let mut list = vec![0; road.length as usize + 1];
+    heights(road, &mut list).expect("the road is accepted");
+    list
+}
+
+/// A road of which much is judged.
+fn any_judged_road(random: &mut Random, round: u32) -> Road {
+    let room = random.within(2..=300);
+    let mut road = if round % 3 < 2 { roads::run_of_crests(random, room) } else { roads::any_road(random) };
+    road.length = (road.length + random.within(0..=100)).min(8_000);
+    road.speed = random.one_of(&[20, 25, 30, 40, 130]);
+    road
+}
+
+#[test]
+fn random_roads() {
+    let folder = folder("report_random");
+    let mut random = Random::new(85);
+    let (mut zones, mut lined) = (0, 0);
+    for round in 0..600 {
+        let road = any_judged_road(&mut random, round);
+        let ended = run_with(&folder, &["report", "-"], &bytes(&road)).0;
+        assert_eq!((ended.errors.as_str(), ended.status), ("", 0), "{road:?}");
+        let said = read_back("-: ", &ended.output);
+        zones += said.zones.iter().map(Vec::len).sum::<usize>();
+        assert_eq!(said, second(road.speed.into(), road.purpose.into(), &heights_of(&road), 0), "{road:?}");
+        // Columns line up: the lines of zones that have numbers end in the same column.
+        let ends: Vec<usize> = ended.output.lines().skip(6).filter(|line| line.ends_with(" m")).map(str::len).collect();
+        assert!(ends.windows(2).all(|pair| pair[0] == pair[1]), "{}", ended.output);
+        lined += ends.len();
+    }
+    assert!(zones > 1_000 && lined > 1_000, "{zones} zones on {lined} lines");
+}
+
+/// Several files: a report each with a line between, and a refused one has its line.
+#[test]
+fn several_files() {
+    let folder = folder("report_several");
+    fs::copy(root().join("roads/three-crests.vcp"), folder.join("three-crests.vcp")).unwrap();
+    fs::write(folder.join("b.vcp"), &EXAMPLE[..15]).unwrap();
+    let ended = run(&folder, &["report", "b.vcp", "three-crests.vcp", "b.vcp", "three-crests.vcp"]);
+    let errors = "b.vcp: refused 1: the file has fewer than 16 bytes\n".repeat(2);
+    assert_eq!(ended, Ended { output: format!("{THREE_CRESTS}\n{THREE_CRESTS}"), errors, status: 1 });
+}
+
+/// The heights that `vcp heights` writes are judged as their road is, whole or from any station on.
+#[test]
+fn check_of_a_road_as_built() {
+    let folder = folder("check_random");
+    let mut random = Random::new(86);
+    for round in 0..200 {
+        let road = any_judged_road(&mut random, round);
+        let from = random.within(0..=road.length);
+        let from = if round % 2 == 0 { 0 } else { from };
+        let [speed, purpose, from_word] =
+            [road.speed.into(), road.purpose.into(), from].map(|number| number.to_string());
+        let survey = run_with(&folder, &["heights", "-", "--from", &from_word], &bytes(&road)).0.output;
+        let arguments = ["check", "-", "--speed", &speed, "--purpose", &purpose];
+        let ended = run_with(&folder, &arguments, survey.as_bytes()).0;
+        assert_eq!((ended.errors.as_str(), ended.status), ("", 0), "{road:?}");
+        let expected = second(road.speed.into(), road.purpose.into(), &heights_of(&road)[from as usize..], from);
+        assert_eq!(read_back("-: ", &ended.output), expected, "{road:?}");
+        if from == 0 {
+            assert_eq!(ended.output, run_with(&folder, &["report", "-"], &bytes(&road)).0.output);
+        }
+    }
+}
+
+/// Any surveyed heights, also those that no profile has.
+#[test]
+fn check_of_random_heights() {
+    let folder = folder("check_heights");
+    let mut random = Random::new(87);
+    for _ in 0..200 {
+        let many = random.within(1..=200) as usize;
+        let size = random.of_any_size(1 << 30) as i32;
+        let heights: Vec<i32> = (0..many).map(|_| random.signed_within(-size..=size)).collect();
+        let first = random.of_any_size(1_000_000);
+        let row = |(place, height): (u32, &i32)| {
+            let sign = if *height < 0 { "-" } else { "" };
+            let (whole, rest) = (height.unsigned_abs() / 10_000, height.unsigned_abs() % 10_000);
+            format!("{},{sign}{whole}.{rest:04}\n", first + place)
+        };
+        let survey: String = (0..).zip(&heights).map(row).collect();
+        let speed = random.one_of(&[20, 30, 40]);
+        let purpose = random.within(1..=5);
+        let letter = ["A", "b", "decision-C", "Decision-d", "5"][purpose as usize - 1];
+        let arguments = ["check", "--purpose", letter, "-", "--speed", &speed.to_string()];
+        let ended = run_with(&folder, &arguments, survey.as_bytes()).0;
+        assert_eq!((ended.errors.as_str(), ended.status), ("", 0), "{survey}");
+        assert_eq!(read_back("-: ", &ended.output), second(speed, purpose, &heights, first), "{survey}");
+    }
+}
+
+/// Each way of writing the same heights.
+#[test]
+fn check_of_the_same_heights_written_otherwise() {
+    let folder = folder("check_forms");
+    let plain = "station_m,height_m\n0,1.5000\n1,-0.5000\n2,0.0000\n";
+    let arguments = ["check", "-", "--speed", "20", "--purpose", "1"];
+    let expected = run_with(&folder, &arguments, plain.as_bytes()).0;
+    assert_eq!((expected.errors.as_str(), expected.status), ("", 0));
+    for text in [
+        "0,1.5000\n1,-0.5000\n2,0.0000\n",
+        "0,1.5\n1,-0.5\n2,0",
+        "\u{feff}station_m,height_m\r\n0,1.5000\r\n1,-0.5000\r\n2,0.0000\r\n\r\n",
+        "station_m,height_m\n\n 0 , 1.5\n\n1,-0.50\n2,-0\n\n",
+    ] {
+        assert_eq!(run_with(&folder, &arguments, text.as_bytes()).0, expected, "{text:?}");
+    }
+}
+
+/// Each fault of a survey is an error with its line.
+#[test]
+fn faults_of_a_survey() {
+    let folder = folder("check_faults");
+    let good: Vec<String> = (0..50).map(|station| format!("{station},0.0")).collect();
+    let no_line = "a line has a station, a comma and its height";
+    for (place, line, reason) in [
+        (20, "21,0.0", "station 20 is missing before 21"),
+        (20, "23,0.0", "stations 20 to 22 are missing before 23"),
+        (20, "19,0.0", "station 19 stands twice"),
+        (20, "0,0.0", "station 0 stands twice"),
+        (20, "20,0.00001", "height: \"0.00001\" has more than 4 decimals"),
+        (20, "20,0,0", "height: \"0,0\" is no number"),
+        (20, "20;0.0", no_line),
+        (20, "20", no_line),
+        (20, "20,", "height: the number is missing"),
+        (20, ",0.0", "station: the number is missing"),
+        (20, "20.0,0.0", "station: \"20.0\" is not whole"),
+        (20, "-20,0.0", "station: \"-20\" is out of range"),
+        (20, "20,214748.3648", "height: \"214748.3648\" is out of range"),
+        (20, "20,1e3", "height: \"1e3\" is no number"),
+        (20, "station_m,height_m", "station: \"station_m\" is no number"),
+        (0, "metre,height", "station: \"metre\" is no number"),
+        (49, "50,0.0", "station 49 is missing before 50"),
+        (1, "\0", no_line),
+    ] {
+        let mut lines = good.clone();
+        lines[place] = line.to_string();
+        fs::write(folder.join("a.csv"), lines.join("\n")).unwrap();
+        let error = format!("a.csv:{}: {reason}\n", place + 1);
+        expect_error(&folder, &["check", "a.csv", "--speed", "20", "--purpose", "1"], 2, &error);
+    }
+    let first_after = "7,0\n6,0\n";
+    fs::write(folder.join("a.csv"), first_after).unwrap();
+    let error = "a.csv:2: station 6 stands after station 7\n";
+    expect_error(&folder, &["check", "a.csv", "--speed", "20", "--purpose", "1"], 2, error);
+    fs::write(folder.join("a.csv"), format!("0,0\n1,{}\n", "1".repeat(1_000))).unwrap();
+    let error = "a.csv:2: the line has 1000 bytes or more\n";
+    expect_error(&folder, &["check", "a.csv", "--speed", "20", "--purpose", "1"], 2, error);
+}
+
+/// The proved functions judge the speed, the purpose and the number of heights.
+#[test]
+fn refused_surveys() {
+    let folder = folder("check_refused");
+    let survey = |many: u32| (0..many).map(|station| format!("{station},0\n")).collect::<String>();
+    let list = "a.csv: refused 19: the list of heights or marks is empty or longer than 8,001\n";
+    let purpose = "a.csv: refused 7: the purpose is not 0 to 5, or that of a road is not 1 to 5\n";
+    for (many, speed, word, line) in [
+        (3, "19", "1", "a.csv: refused 6: the speed is not 20 to 130 km/h\n"),
+        (3, "20", "stopping", purpose),
+        (3, "20", "6", purpose),
+        (0, "20", "1", list),
+        (8_002, "20", "1", list),
+        (9_000, "20", "1", list),
+    ] {
+        fs::write(folder.join("a.csv"), survey(many)).unwrap();
+        expect_error(&folder, &["check", "a.csv", "--speed", speed, "--purpose", word], 1, line);
+    }
+    fs::write(folder.join("a.csv"), survey(8_001)).unwrap();
+    assert_eq!(run(&folder, &["check", "a.csv", "--speed", "20", "--purpose", "1"]).status, 0);
+    expect_wrong(&folder, &["check", "a.csv", "--speed", "20"], "--purpose is missing");
+    expect_wrong(&folder, &["check", "a.csv", "--purpose", "1"], "--speed is missing");
+    let reason = "--purpose: \"F\" is no purpose: 0 to 5, stopping, or A to E";
+    expect_wrong(&folder, &["check", "a.csv", "--speed", "20", "--purpose", "F"], reason);
+}

@@ -1,0 +1,115 @@
+//! `vcp road` and `vcp text`: what they read, write and say.
+
+mod common;
+
+use std::fs;
+use std::os::unix::fs::{symlink, PermissionsExt};
+
+use common::{expect, expect_error, folder, names, run_with};
+use sight_tests::random::Random;
+use sight_tests::reference::file::bytes;
+use sight_tests::roads;
+
+const GOOD: &str = "speed 80 km/h\npurpose 1\nlength 1000 m\nstart height 100.00 m\nfirst grade 0.00 %\n";
+const GOOD_FILE: &[u8] = b"VCP\x01\0\x50\x01\xE8\x03\x40\x42\x0F\0\0\0\0";
+
+#[test]
+fn a_text_becomes_a_road_file_and_a_text_again() {
+    let folder = folder("there_and_back");
+    fs::write(folder.join("my road.txt"), GOOD).unwrap();
+    expect(&folder, &["road", "my road.txt", "-o", "my road.vcp"], "");
+    assert_eq!(fs::read(folder.join("my road.vcp")).unwrap(), GOOD_FILE);
+    assert_eq!(run_with(&folder, &["road", "my road.txt"], b"").1, GOOD_FILE);
+    assert_eq!(run_with(&folder, &["road", "-"], GOOD.as_bytes()).1, GOOD_FILE);
+    expect(&folder, &["text", "my road.vcp"], GOOD);
+    expect(&folder, &["text", "my road.vcp", "-o", "again.txt"], "");
+    assert_eq!(fs::read_to_string(folder.join("again.txt")).unwrap(), GOOD);
+    assert_eq!(names(&folder), ["again.txt", "my road.txt", "my road.vcp"]);
+}
+
+/// From bytes to text and back nothing is lost.
+#[test]
+fn random_roads_there_and_back() {
+    let folder = folder("roads_there_and_back");
+    let mut random = Random::new(90);
+    for _ in 0..200 {
+        let file = bytes(&roads::any_road(&mut random));
+        let text = run_with(&folder, &["text", "-"], &file).0;
+        assert_eq!((text.errors.as_str(), text.status), ("", 0));
+        assert_eq!(run_with(&folder, &["road", "-"], text.output.as_bytes()).1, file, "{}", text.output);
+    }
+}
+
+/// What stood there before gives way, hands on its permissions, and stays where a link leads to it.
+#[test]
+fn an_earlier_road_file_is_replaced() {
+    let folder = folder("replaced");
+    fs::write(folder.join("a.txt"), GOOD).unwrap();
+    fs::write(folder.join("a.vcp"), "a longer file that stood here before").unwrap();
+    fs::set_permissions(folder.join("a.vcp"), fs::Permissions::from_mode(0o640)).unwrap();
+    symlink("a.vcp", folder.join("link.vcp")).unwrap();
+    expect(&folder, &["road", "a.txt", "-o", "link.vcp"], "");
+    assert_eq!(fs::read(folder.join("a.vcp")).unwrap(), GOOD_FILE);
+    assert_eq!(fs::metadata(folder.join("a.vcp")).unwrap().permissions().mode() & 0o777, 0o640);
+    assert!(fs::symlink_metadata(folder.join("link.vcp")).unwrap().is_symlink());
+    assert_eq!(names(&folder), ["a.txt", "a.vcp", "link.vcp"]);
+}
+
+/// Each bad line has a line of its own, and what stood there before still stands.
+#[test]
+fn bad_texts_write_nothing() {
+    let folder = folder("bad_texts");
+    fs::write(folder.join("a.vcp"), "before").unwrap();
+    fs::write(folder.join("a.txt"), GOOD.replace("80 km/h", "80 mph").replace("1000", "1000.5")).unwrap();
+    let lines = "a.txt:1: speed: the unit is km/h, not \"mph\"\na.txt:3: length: \"1000.5\" is not whole\n";
+    expect_error(&folder, &["road", "a.txt", "-o", "a.vcp"], 2, lines);
+    fs::write(folder.join("a.txt"), GOOD.replace("speed 80", "speed 131")).unwrap();
+    let line = "a.txt:1: refused 6: the speed is not 20 to 130 km/h\n";
+    expect_error(&folder, &["road", "a.txt", "-o", "a.vcp"], 1, line);
+    fs::write(folder.join("a.txt"), GOOD.to_string() + "curve 999 m, 4 m, 0 %\n").unwrap();
+    let line = "a.txt:6: refused 12: a curve begins before station 0 or ends after the road\n";
+    expect_error(&folder, &["road", "a.txt", "-o", "a.vcp"], 1, line);
+    assert_eq!(fs::read(folder.join("a.vcp")).unwrap(), b"before");
+    expect_error(&folder, &["road", "a.txt", "-o", "b.vcp"], 1, line);
+    expect_error(&folder, &["road", "a.txt"], 1, line);
+    assert_eq!(names(&folder), ["a.txt", "a.vcp"]);
+}
+
+/// Bytes that are no text may stand in a comment.
+#[test]
+fn bytes_that_are_no_text() {
+    let folder = folder("no_text");
+    fs::write(folder.join("a.txt"), [b"# Stra\xDFe\n", GOOD.as_bytes()].concat()).unwrap();
+    assert_eq!(run_with(&folder, &["road", "a.txt"], b"").1, GOOD_FILE);
+    fs::write(folder.join("a.txt"), [GOOD.as_bytes(), b"curve\xDF"].concat()).unwrap();
+    let known = "a line begins with speed, purpose, length, start height, first grade or curve";
+    let line = format!("a.txt:6: unknown words in \"curve\u{fffd}\": {known}\n");
+    expect_error(&folder, &["road", "a.txt"], 2, &line);
+}
+
+#[test]
+fn refused_road_files_have_no_text() {
+    let folder = folder("refused");
+    fs::write(folder.join("a.vcp"), &GOOD_FILE[..15]).unwrap();
+    expect_error(&folder, &["text", "a.vcp"], 1, "a.vcp: refused 1: the file has fewer than 16 bytes\n");
+    fs::write(folder.join("a.vcp"), GOOD).unwrap();
+    let line = "a.vcp: refused 2: the file does not begin with the letters VCP\n";
+    expect_error(&folder, &["text", "a.vcp", "-o", "a.txt"], 1, line);
+    assert_eq!(names(&folder), ["a.vcp"]);
+}
+
+#[test]
+fn files_that_cannot_be_written() {
+    let folder = folder("files");
+    fs::write(folder.join("a.txt"), GOOD).unwrap();
+    fs::create_dir(folder.join("a.vcp")).unwrap();
+    let there = "No such file or directory";
+    expect_error(&folder, &["road", "a.txt", "-o", "no/a"], 2, &format!("no/a: {there}\n"));
+    expect_error(&folder, &["road", "a.txt", "-o", "a.vcp"], 2, "a.vcp: Is a directory\n");
+    expect_error(&folder, &["road", "a.txt", "-o", ""], 2, &format!(": {there}\n"));
+    let replaced = "./a.txt: it would replace what it is made from\n";
+    expect_error(&folder, &["road", "a.txt", "-o", "./a.txt"], 2, replaced);
+    expect_error(&folder, &["road", "a.txt", "-o", "/dev/full"], 2, "/dev/full: No space left on device\n");
+    expect(&folder, &["road", "a.txt", "-o", "/dev/null"], "");
+    assert_eq!(names(&folder), ["a.txt", "a.vcp"]);
+}

@@ -1,0 +1,163 @@
+//! `vcp heights` and `vcp sight`, against the second calculation.
+
+mod common;
+
+use std::fs;
+
+use common::{expect, expect_error, expect_wrong, folder, root, run_with};
+use sight_tests::random::Random;
+use sight_tests::reference::file::bytes;
+use sight_tests::reference::road::{stored_height, Road};
+use sight_tests::reference::sight::{available_sight, whole_heights, Look};
+use sight_tests::roads;
+
+/// The stored heights of a road.
+fn heights(road: &Road) -> Vec<i32> {
+    (0..=road.length).map(|station| stored_height(road, station)).collect()
+}
+
+/// A height in metres, written another way than the command does: from the text of its h-units.
+fn metres(height: i32) -> String {
+    let digits = format!("{:05}", height.unsigned_abs());
+    let (whole, decimals) = digits.split_at(digits.len() - 4);
+    format!("{}{whole}.{decimals}", if height < 0 { "-" } else { "" })
+}
+
+/// A table's lines, from station `from` to `to` in steps.
+fn table(header: &str, from: usize, to: usize, every: usize, value: impl Fn(usize) -> String) -> String {
+    let rows = (from..=to).filter(|station| (station - from) % every == 0);
+    header.to_string() + "\n" + &rows.map(|station| format!("{station},{}\n", value(station))).collect::<String>()
+}
+
+/// A stretch of a road, in steps.
+fn any_stretch(random: &mut Random, last: usize) -> (usize, usize, usize) {
+    let from = random.within(0..=last as u32) as usize;
+    let to = random.within(from as u32..=last as u32) as usize;
+    (from, to, random.of_any_size(20) as usize)
+}
+
+#[test]
+fn heights_of_random_roads() {
+    let folder = folder("heights_random");
+    let mut random = Random::new(83);
+    let mut negative = 0;
+    for round in 0..300 {
+        let room = random.within(2..=200);
+        let road = if round % 2 == 0 { roads::run_of_crests(&mut random, room) } else { roads::any_road(&mut random) };
+        let heights = heights(&road);
+        negative += heights.iter().filter(|&&height| height < 0).count();
+        let last = heights.len() - 1;
+        let file = bytes(&road);
+        let all = run_with(&folder, &["heights", "-"], &file).0;
+        assert_eq!(all.output, table("station_m,height_m", 0, last, 1, |station| metres(heights[station])), "{road:?}");
+        assert_eq!((all.errors.as_str(), all.status), ("", 0));
+        let (from, to, every) = any_stretch(&mut random, last);
+        let [from_word, to_word, every_word] = [from, to, every].map(|number| number.to_string());
+        let arguments = ["heights", "-", "--from", &from_word, "--to", &to_word, "--every", &every_word];
+        let part = run_with(&folder, &arguments, &file).0;
+        assert_eq!(part.output, table("station_m,height_m", from, to, every, |station| metres(heights[station])));
+    }
+    assert!(negative > 1_000, "{negative} heights below zero");
+}
+
+#[test]
+fn sights_of_random_roads() {
+    let folder = folder("sights_random");
+    let mut random = Random::new(84);
+    for round in 0..300 {
+        let room = random.within(2..=120);
+        let road =
+            if round % 2 == 0 { roads::run_of_crests(&mut random, room) } else { roads::breaks(&mut random, room) };
+        let heights = whole_heights(&heights(&road));
+        let last = heights.len() - 1;
+        let look = Look {
+            eye: random.of_any_size(50_000),
+            object: random.of_any_size(50_000),
+            farthest: random.of_any_size(8_000),
+        };
+        let (from, to, _) = any_stretch(&mut random, last);
+        let [eye, object] = [look.eye, look.object].map(|height| metres(height as i32));
+        let [from_word, to_word, farthest] = [from, to, look.farthest as usize].map(|number| number.to_string());
+        let arguments = [
+            "sight",
+            "--eye",
+            &eye,
+            "--object",
+            &object,
+            "--farthest",
+            &farthest,
+            "--from",
+            &from_word,
+            "--to",
+            &to_word,
+            "-",
+        ];
+        let ended = run_with(&folder, &arguments, &bytes(&road)).0;
+        let sights = |station: usize| available_sight(&heights, look, station).to_string();
+        assert_eq!(ended.output, table("station_m,sight_m", from, to, 1, sights), "{arguments:?}, {road:?}");
+        assert_eq!((ended.errors.as_str(), ended.status), ("", 0));
+        // Without options: eye 1.08 m, object 0.60 m, as far as the road goes.
+        let look = Look { eye: 10_800, object: 6_000, farthest: 8_000 };
+        let sights = |station: usize| available_sight(&heights, look, station).to_string();
+        let ended = run_with(&folder, &["sight", "-"], &bytes(&road)).0;
+        assert_eq!(ended.output, table("station_m,sight_m", 0, last, 1, sights), "{road:?}");
+    }
+}
+
+/// Into a file, whole; and what stood there before gives way.
+#[test]
+fn into_a_file() {
+    let folder = folder("tables_files");
+    fs::copy(root().join("roads/level.vcp"), folder.join("a.vcp")).expect("the road ships with the repository");
+    fs::write(folder.join("a.csv"), "a longer text than the table that follows here, and of another kind").unwrap();
+    expect(&folder, &["heights", "a.vcp", "-o", "a.csv", "--to=1"], "");
+    assert_eq!(fs::read_to_string(folder.join("a.csv")).unwrap(), "station_m,height_m\n0,100.0000\n1,100.0000\n");
+    expect(&folder, &["sight", "-o=b.csv", "a.vcp", "--from=999"], "");
+    assert_eq!(fs::read_to_string(folder.join("b.csv")).unwrap(), "station_m,sight_m\n999,1\n1000,0\n");
+    expect(&folder, &["heights", "a.vcp", "--from", "1000", "-o", "-"], "station_m,height_m\n1000,100.0000\n");
+    assert_eq!(common::names(&folder), ["a.csv", "a.vcp", "b.csv"]);
+}
+
+/// Stations that the road does not have, and options that cannot be read.
+#[test]
+fn wrong_options() {
+    let folder = folder("tables_wrong");
+    fs::copy(root().join("roads/level.vcp"), folder.join("a.vcp")).expect("the road ships with the repository");
+    for name in ["heights", "sight"] {
+        expect_wrong(&folder, &[name, "a.vcp", "--to", "1001"], "--to 1001: the last station is 1000");
+        expect_wrong(&folder, &[name, "a.vcp", "--from", "1001"], "--from 1001: the last station is 1000");
+        expect_wrong(&folder, &[name, "a.vcp", "--from", "9", "--to", "8"], "--from 9 is beyond --to 8");
+        expect_wrong(&folder, &[name, "a.vcp", "--from", "1.0"], "--from: \"1.0\" is not whole");
+        expect_wrong(&folder, &[name, "a.vcp", "--from", "-1"], "--from: \"-1\" is negative");
+        expect_wrong(&folder, &[name, "a.vcp", "--from", "1", "--from", "2"], "--from stands twice");
+        expect_wrong(&folder, &[name, "a.vcp", "--from"], "--from needs M");
+    }
+    expect_wrong(&folder, &["heights", "a.vcp", "--every", "0"], "--every 0 is no step");
+    expect_wrong(&folder, &["heights", "a.vcp", "--eye", "1"], "there is no option --eye");
+    expect_wrong(&folder, &["sight", "a.vcp", "--every", "1"], "there is no option --every");
+    expect_wrong(&folder, &["sight", "a.vcp", "--eye", "1.00001"], "--eye: \"1.00001\" has more than 4 decimals");
+    expect_wrong(&folder, &["sight", "a.vcp", "--eye", ""], "--eye: the number is missing");
+}
+
+/// The proved functions judge heights and distances.
+#[test]
+fn refused_options() {
+    let folder = folder("tables_refused");
+    fs::copy(root().join("roads/level.vcp"), folder.join("a.vcp")).expect("the road ships with the repository");
+    let height = "a.vcp: refused 17: the height of eye or object is not 1 to 50,000 h-units\n";
+    let farthest = "a.vcp: refused 21: the farthest distance is not 1 to 8,000 m\n";
+    for (name, value, line) in [
+        ("--eye", "0", height),
+        ("--eye", "5.0001", height),
+        ("--object", "0.0000", height),
+        ("--object", "99999999999999999999", height),
+        ("--farthest", "0", farthest),
+        ("--farthest", "8001", farthest),
+        ("--farthest", "4294967297", farthest),
+    ] {
+        expect_error(&folder, &["sight", "a.vcp", name, value], 1, line);
+    }
+    for (name, value) in [("--eye", "0.0001"), ("--eye", "5"), ("--object", "5.0000"), ("--farthest", "8000")] {
+        assert_eq!(common::run(&folder, &["sight", "a.vcp", name, value]).status, 0, "{name} {value}");
+    }
+}
