@@ -6,13 +6,18 @@ SHELL := /bin/bash
 .ONESHELL:
 .SILENT:
 .DELETE_ON_ERROR:
-.PHONY: test list plot text given road textable bench tools fmt clean
+.NOTPARALLEL:
+.PHONY: test list plot text road vcp install bench given textable tools fmt clean
 
 # The road file that `make list` lists, `make plot` draws and `make text` prints, and the file of its picture.
 ROAD ?= roads/three-crests.vcp
 PLOT ?= target/plot/$(basename $(notdir $(ROAD))).svg
 
-# What the programs and the libraries are proved and built from.
+# Where `make install` puts the command: $(PREFIX)/bin.
+PREFIX ?= /usr/local
+
+# The proved crates that Rust links, and what they are proved and built from.
+LIBRARIES := van sight_exports marks_exports file_exports listing_exports
 SOURCES := crates.txt $(shell find crates -type f)
 
 # Proves every crate from nothing, tries every must-fail edit and runs the programs; then links the proved functions into
@@ -22,32 +27,33 @@ test: tools
 	log=$$(mktemp)
 	trap 'rm -f "$$log"' EXIT
 	rt ci | tee "$$log"
-	rt staticlib van
-	rt staticlib probe
+	for library in $(LIBRARIES); do rt staticlib $$library; done
 	cargo test --workspace --release --offline --quiet
 	tail -n 1 "$$log"
 
+# The command, built from the proved functions. `make -s vcp` and then target/rust/release/vcp --help.
+vcp: tools $(LIBRARIES:%=target/staticlib/lib%.a)
+	cargo build --release --offline --quiet --package command
+
+run = target/rust/release/vcp
+
+# Puts the command into $(PREFIX)/bin; its --help is its manual.
+install: vcp
+	install -D -m 755 $(run) "$(DESTDIR)$(PREFIX)/bin/vcp"
+
 # Lists a road file.
-list: given target/bin/lister
-	target/bin/lister < "$(ROAD)"
+list: given vcp
+	$(run) list "$(ROAD)"
 
 # Draws a road's profile and zones. A refused file leaves the picture as it was.
-plot: given target/bin/plotter
-	$(call need,[ ! "$(PLOT)" -ef "$(ROAD)" ],PLOT is the road file itself)
-	drawn=$$(mktemp)
-	trap 'rm -f "$$drawn"' EXIT
-	target/bin/plotter < "$(ROAD)" > "$$drawn"
-	case $$(head -c 4 "$$drawn") in
-	'<svg') ;;
-	*) cat "$$drawn"; exit 1 ;;
-	esac
+plot: given vcp
 	mkdir -p "$$(dirname "$(PLOT)")"
-	cat "$$drawn" > "$(PLOT)"
+	$(run) plot "$(ROAD)" -o "$(PLOT)"
 	echo "$(PLOT)"
 
-# Prints the text of a road file (rust/roadtext).
-text: given tools target/staticlib/libvan.a
-	$(roadtext) text "$(ROAD)"
+# Prints the text of a road file.
+text: given vcp
+	$(run) text "$(ROAD)"
 
 given:
 	$(call need,[ -f "$(ROAD)" ],$(ROAD) is not a file: give one with ROAD=file)
@@ -55,24 +61,22 @@ given:
 # Turns a text into a road file: TEXT with the ending .vcp, or the ROAD of the command line. The default of ROAD is no place
 # to write to.
 road: ROAD :=
-road: textable tools target/staticlib/libvan.a
-	$(roadtext) road "$(TEXT)" $(if $(ROAD),"$(ROAD)")
+road: textable vcp
+	text="$(TEXT)"
+	road="$(ROAD)"
+	$(run) road "$$text" -o "$${road:=$${text%.txt}.vcp}"
+	echo "$$road"
 
 textable:
 	$(call need,[ -f "$(TEXT)" ],$(or $(TEXT),TEXT) is not a file: make road TEXT=file [ROAD=out])
 
-roadtext = cargo run --release --offline --quiet --package roadtext --
+# Times the proved functions beside the same calculations in safe Rust and beside the literal rule, and the listing of a
+# thousand roads beside their marking, and prints the tables. It takes two or three minutes.
+bench: tools $(LIBRARIES:%=target/staticlib/lib%.a)
+	cargo build --profile bench-run --offline --quiet --package command --package sight_tests
+	target/rust/bench-run/bench
 
-# Times the proved functions beside the same calculations in safe Rust and beside the literal rule, and prints one table.
-# It takes a minute or two.
-bench: tools target/staticlib/libvan.a target/staticlib/libprobe.a
-	cargo run --profile bench-run --offline --quiet --bin bench
-
-# Proves and builds a program, or a library for Rust, where what it is made from has changed.
-target/bin/%: $(SOURCES)
-	$(kit)
-	$(call quietly,rt check $*)
-
+# Proves and builds a library for Rust, where what it is made from has changed.
 target/staticlib/lib%.a: $(SOURCES) | tools
 	$(call quietly,rt staticlib $*)
 
