@@ -1,9 +1,15 @@
 //! `make bench`: the proved functions beside the same calculations in safe Rust and beside the literal rule, on the same
 //! inputs in one run. The two sides take turns round by round, so that the machine's load falls on both alike. Times are
-//! those on the processor: what other programs took meanwhile does not count.
+//! those on the processor: what other programs took meanwhile does not count. Last, the command's listing of many roads
+//! beside their marking, by the clock on the wall.
 
 use std::fs;
 use std::hint::black_box;
+use std::ops::RangeInclusive;
+use std::path::PathBuf;
+use std::process::{self, Command, Stdio};
+use std::time::Instant;
+use std::{env, error};
 
 use sight_tests::bare;
 use sight_tests::quick;
@@ -214,7 +220,90 @@ fn growth(roads: impl Iterator<Item = Road>) {
     }
 }
 
-fn main() {
+/// How many roads are listed in one call, and in how many rounds.
+const LISTED: usize = 1_000;
+const LISTING_ROUNDS: usize = 5;
+
+/// The longest that their listing may take beside their marking.
+const TIMES_MARKING: f64 = 1.2;
+
+/// Files of long roads in a folder of their own, which is removed at the end.
+struct Files {
+    folder: PathBuf,
+    paths: Vec<PathBuf>,
+    bytes: Vec<Vec<u8>>,
+}
+
+impl Files {
+    fn write(roads: &[Road]) -> Result<Files, Box<dyn error::Error>> {
+        let folder = env::temp_dir().join(format!("vcp-bench-{}", process::id()));
+        fs::create_dir(&folder)?;
+        let mut files = Files { folder, paths: vec![], bytes: vec![] };
+        for (number, road) in roads.iter().cycle().take(LISTED).enumerate() {
+            files.paths.push(files.folder.join(format!("{number}.vcp")));
+            files.bytes.push(bytes(road));
+            fs::write(&files.paths[number], &files.bytes[number])?;
+        }
+        Ok(files)
+    }
+
+    /// The seconds of one call of `vcp list`.
+    fn listing(&self) -> Result<f64, Box<dyn error::Error>> {
+        let mut command = Command::new(env::current_exe()?.with_file_name("vcp"));
+        command.arg("list").args(&self.paths).stdin(Stdio::null()).stdout(Stdio::null());
+        let start = Instant::now();
+        let status = command.status()?;
+        assert!(status.success(), "the roads are listed");
+        Ok(start.elapsed().as_secs_f64())
+    }
+
+    /// The seconds of their marking.
+    fn marking(&self) -> f64 {
+        let mut marks = [0; vcp::MOST_STATIONS];
+        let start = Instant::now();
+        for file in &self.bytes {
+            let _ = black_box(vcp::mark_road_file(black_box(file), black_box(&mut marks)));
+        }
+        start.elapsed().as_secs_f64()
+    }
+}
+
+impl Drop for Files {
+    fn drop(&mut self) {
+        let _ = fs::remove_dir_all(&self.folder);
+    }
+}
+
+/// The long roads at so many speeds and for so many purposes.
+fn long_roads(speeds: impl Iterator<Item = u8>, purposes: RangeInclusive<u8>) -> Vec<Road> {
+    let kinds: Vec<Road> = roads().into_iter().map(|(_, road)| road).filter(|road| road.length == 8_000).collect();
+    let all = speeds.flat_map(|speed| purposes.clone().map(move |purpose| (speed, purpose)));
+    all.flat_map(|(speed, purpose)| kinds.iter().map(move |road| Road { speed, purpose, ..road.clone() })).collect()
+}
+
+/// The listing of a thousand roads of 8,000 m in one call, beside their marking. The machine has two speeds, one twice the
+/// other, and a turn lasts long: so the best of each side is taken.
+fn listings() -> Result<(), Box<dyn error::Error>> {
+    println!("{:32} {:>12} {:>14} {:>9}  target", "roads", "vcp list s", "marking s", "ratio");
+    for (name, roads, most) in [
+        ("of all speeds and purposes", long_roads((20..=130).step_by(5), 1..=5), Some(TIMES_MARKING)),
+        ("130 km/h, decision E", long_roads([130].into_iter(), 5..=5), Some(TIMES_MARKING)),
+        ("20 km/h, decision A", long_roads([20].into_iter(), 1..=1), None),
+    ] {
+        let files = Files::write(&roads)?;
+        let (mut listing, mut marking) = (f64::MAX, f64::MAX);
+        for _ in 0..LISTING_ROUNDS {
+            listing = listing.min(files.listing()?);
+            marking = marking.min(files.marking());
+        }
+        let ratio = listing / marking;
+        let target = most.map(|most| format!("at most {most}: {}", verdict(ratio <= most))).unwrap_or_default();
+        println!("{name:32} {listing:12.3} {marking:14.3} {ratio:9.2}  {target}");
+    }
+    Ok(())
+}
+
+fn main() -> Result<(), Box<dyn error::Error>> {
     let load = fs::read_to_string("/proc/loadavg").unwrap_or_default();
     let load = load.split(' ').next().unwrap_or_default();
     println!("Medians of {ROUNDS} rounds; both sides built for release; load of the machine {load}\n");
@@ -223,4 +312,8 @@ fn main() {
     growth([1_000, 2_000, 4_000, 8_000].into_iter().map(|length| level(length, 130)));
     println!("\nMarking a level road, by the required distance");
     growth([20, 60, 90, 130].into_iter().map(|speed| level(8_000, speed)));
+    println!(
+        "\nListing {LISTED} roads of 8,000 m in one call, beside their marking: the best of {LISTING_ROUNDS} rounds"
+    );
+    listings()
 }
