@@ -12,31 +12,20 @@ use sight_tests::reference::marks::{marks, runs};
 use sight_tests::reference::road::{heights, Road};
 use sight_tests::roads::{self, EXAMPLE};
 
-const THREE_CRESTS: &str = "\
-three-crests.vcp: stations 0 to 1500, 90 km/h, decision A
+/// The report that the README shows, of a road by this name.
+fn report_of_the_readme(name: &str) -> String {
+    let readme = fs::read_to_string(root().join("README.md")).expect("the README is there");
+    let mut lines = readme.lines().skip_while(|&line| line != "$ vcp report roads/three-crests.vcp").skip(1);
+    let title = lines.next().expect("the report has a title").replacen("roads/three-crests.vcp", name, 1);
+    let others: String = lines.take_while(|&line| line != "```").map(|line| format!("{line}\n")).collect();
+    format!("{title}\n{others}")
+}
 
-sight      needed   judged   lacking    share   not judged
-stopping    160 m   1341 m     297 m   22.1 %        160 m
-decision    170 m   1331 m     331 m   24.9 %        170 m
-
-zone                     from     to   length
-stopping sight lacking    454    567    114 m
-stopping sight lacking    602    687     86 m
-stopping sight lacking    722    818     97 m
-decision sight lacking    444    567    124 m
-decision sight lacking    590    687     98 m
-decision sight lacking    710    818    109 m
-reduced decision zone     444    453     10 m
-reduced decision zone     590    601     12 m
-reduced decision zone     710    721     12 m
-stopping not judged      1341   1500    160 m
-decision not judged      1331   1500    170 m
-";
-
-/// The road that the README shows, looked at by hand.
 #[test]
-fn three_crests() {
-    expect(&root().join("roads"), &["report", "three-crests.vcp"], THREE_CRESTS);
+fn report_of_three_crests() {
+    let report = report_of_the_readme("roads/three-crests.vcp");
+    assert_eq!(report.lines().count(), 18);
+    expect(&root(), &["report", "roads/three-crests.vcp"], &report);
 }
 
 /// What a report says.
@@ -174,11 +163,12 @@ fn random_roads() {
 #[test]
 fn several_files() {
     let folder = folder("report_several");
-    fs::copy(root().join("roads/three-crests.vcp"), folder.join("three-crests.vcp")).unwrap();
+    fs::copy(root().join("roads/three-crests.vcp"), folder.join("a.vcp")).unwrap();
     fs::write(folder.join("b.vcp"), &EXAMPLE[..15]).unwrap();
-    let ended = run(&folder, &["report", "b.vcp", "three-crests.vcp", "b.vcp", "three-crests.vcp"]);
+    let ended = run(&folder, &["report", "b.vcp", "a.vcp", "b.vcp", "a.vcp"]);
     let errors = "b.vcp: refused 1: the file has fewer than 16 bytes\n".repeat(2);
-    assert_eq!(ended, Ended { output: format!("{THREE_CRESTS}\n{THREE_CRESTS}"), errors, status: 1 });
+    let report = report_of_the_readme("a.vcp");
+    assert_eq!(ended, Ended { output: format!("{report}\n{report}"), errors, status: 1 });
 }
 
 /// The heights that `vcp heights` writes are judged as their road is, whole or from any station on.
