@@ -77,7 +77,7 @@ fn zone_rows(judgement: &Judgement, zone: usize, first_station: u32) -> Vec<Row>
 
 /// The report of what is judged under this name, from its first station on.
 pub fn report(name: &str, judgement: &Judgement, first_station: u32) -> String {
-    let last_station = first_station + judgement.stations - 1;
+    let last_station = first_station + (judgement.stations - 1);
     let Judgement { speed, purpose, stopping, decision, .. } = *judgement;
     let sums = [
         row(["sight", "needed", "judged", "lacking", "share", "not judged"]),

@@ -238,6 +238,17 @@ fn check_of_the_same_heights_written_otherwise() {
     }
 }
 
+/// The last station that can be counted, and the one behind it.
+#[test]
+fn check_of_the_greatest_stations() {
+    let folder = folder("check_greatest");
+    let arguments = ["check", "-", "--speed", "20", "--purpose", "1"];
+    let ended = run_with(&folder, &arguments, b"4294967295,0").0;
+    assert!(ended.output.starts_with("-: stations 4294967295 to 4294967295, 20 km/h, decision A\n"), "{ended:?}");
+    let ended = run_with(&folder, &arguments, b"4294967295,0\n4294967296,0").0;
+    assert_eq!(ended.errors, "-:2: station: \"4294967296\" is out of range\n");
+}
+
 /// Each fault of a survey is an error with its line.
 #[test]
 fn faults_of_a_survey() {
