@@ -20,7 +20,7 @@ PREFIX ?= /usr/local
 LIBRARIES := van sight_exports marks_exports file_exports listing_exports
 SOURCES := crates.txt $(shell find crates -type f)
 
-# Proves every crate from nothing, tries every must-fail edit and runs the programs; then links the proved functions into
+# Proves every crate from nothing, tries every must-fail edit and runs the lister; then links the proved functions into
 # the Rust tests and runs them. Where all went well the last line repeats that of `rt ci`.
 test: tools
 	exec 2>&1

@@ -1,13 +1,13 @@
-//! What the tests share: the proved functions with bare answers, the second calculation that they are compared with, the
-//! comparing of lent lists, the programs, generators of inputs and counts.
+//! What the tests share: the second calculation that the proved functions are compared with, the comparing of lent lists,
+//! the lister, what is drawn of a road, generators of inputs and counts.
 
 use exports::Refusal;
 
 use crate::reference::Answer;
 
+pub mod drawn;
 pub mod lent;
-pub mod program;
-pub mod proved;
+pub mod lister;
 pub mod quick;
 pub mod random;
 pub mod reference;

@@ -1,11 +1,11 @@
-//! What the documents show is what the programs print, what they name is there, and the table of must-fail edits has
+//! What the documents show is what the lister prints, what they name is there, and the table of must-fail edits has
 //! them all.
 
 use std::collections::{BTreeMap, BTreeSet};
 use std::fs;
 use std::path::{Path, PathBuf};
 
-use sight_tests::program;
+use sight_tests::lister;
 use sight_tests::reference::listing::listing;
 
 fn root() -> PathBuf {
@@ -37,7 +37,7 @@ fn listing_of_the_readme() {
         .into_iter()
         .map(|line| line.split("  ").next().unwrap_or_default())
         .collect();
-    let printed = program::output("lister", &three_crests());
+    let printed = lister::output(&three_crests());
     assert_eq!(shown, printed.lines().collect::<Vec<_>>());
     assert_eq!(printed, listing(&three_crests()), "second calculation");
 }
@@ -102,8 +102,8 @@ fn functions_are_those_of_the_crates() {
     }
 }
 
-/// The table of wrong answers: each contract, such as `sight::profile`, with its edits. A row may have several contracts, whose
-/// wrong answers one edit makes; an empty first column stands for the contracts above.
+/// The table of wrong answers: each contract, such as `sight::profile`, with its edits. A row may have several contracts:
+/// those of a crate of exports share its edits; an empty first column stands for the contracts above.
 fn wrong_answers(table: &str) -> BTreeMap<String, Vec<String>> {
     let names = |column: &str| quoted(column).into_iter().map(String::from).collect::<Vec<_>>();
     let mut answers: BTreeMap<String, Vec<String>> = BTreeMap::new();

@@ -1,6 +1,6 @@
 //! Document 01, "The lister": the program, from standard input to standard output.
 
-use sight_tests::program;
+use sight_tests::lister;
 use sight_tests::random::Random;
 use sight_tests::reference::file::{bytes, read};
 use sight_tests::reference::listing::listing;
@@ -9,7 +9,7 @@ use sight_tests::roads::{self, EXAMPLE};
 
 /// Compares what the program prints with the second calculation. Answers the text.
 fn compare(file: &[u8]) -> String {
-    let text = program::output("lister", file);
+    let text = lister::output(file);
     assert_eq!(text, listing(file), "{file:02X?}");
     text
 }

@@ -1,29 +1,28 @@
 //! The listing in a lent buffer: just long enough, longer, a byte too short and empty.
 
+use sight_tests::bare;
 use sight_tests::lent;
-use sight_tests::proved;
 use sight_tests::random::Random;
-use sight_tests::reference::file::bytes;
+use sight_tests::reference::file::{bytes, read};
 use sight_tests::reference::listing::listing;
 use sight_tests::roads;
 
-/// Compares the listing in a buffer of so many bytes with the second calculation's. It is refused 14 where that does not fit.
-fn compare(random: &mut Random, file: &[u8], places: usize) {
+/// Compares the listing in a buffer of so many bytes with the text of the second calculation. It is refused 14 where that does
+/// not fit.
+fn compare(random: &mut Random, file: &[u8], text: &str, places: usize) {
     let second = |buffer: &mut [u8]| {
-        let text = listing(file);
         let place = buffer.get_mut(..text.len()).ok_or(14_u32)?;
         place.copy_from_slice(text.as_bytes());
         Ok(text.len() as u32)
     };
-    let proved = |buffer: &mut [u8]| proved::listing(file, buffer);
-    let before = random.list(places, |bits| bits as u8);
-    let (answer, _) = lent::compare(&before, proved, second, format_args!("{file:02X?}"));
-    assert_eq!(answer.is_ok(), listing(file).len() <= places);
+    let proved = |buffer: &mut [u8]| bare(exports::list_road_file(file, buffer));
+    let _ = lent::compare(&random.list(places, |bits| bits as u8), proved, second, format_args!("{file:02X?}"));
 }
 
 #[test]
 fn random_files() {
     let mut random = Random::new(45);
+    let mut accepted = 0;
     for round in 0..500 {
         let room = random.within(2..=100);
         let file = match round % 4 {
@@ -38,10 +37,12 @@ fn random_files() {
                 bytes(&road)
             }
         };
-        let length = listing(&file).len();
+        accepted += u32::from(read(&file).is_ok());
+        let text = listing(&file);
         let more = random.within(1..=40) as usize;
-        for places in [length, length + more, length - 1, 0] {
-            compare(&mut random, &file, places);
+        for places in [text.len(), text.len() + more, text.len() - 1, 0] {
+            compare(&mut random, &file, &text, places);
         }
     }
+    assert!((300..400).contains(&accepted), "{accepted} of 500 accepted");
 }

@@ -1,7 +1,7 @@
 //! Document 01, "Marks and zones": the marks of lent heights.
 
+use sight_tests::bare;
 use sight_tests::lent;
-use sight_tests::proved;
 use sight_tests::random::Random;
 use sight_tests::reference::marks::{marks, EYE, OBJECT};
 use sight_tests::reference::sight::{available_sight, whole_heights, Look};
@@ -11,7 +11,7 @@ use sight_tests::tally::Bits;
 
 /// The program marks `places` bytes just as the second calculation does, and the rest stays.
 fn compare(random: &mut Random, speed: u32, purpose: u32, heights: &[i32], places: usize) -> (Answer, Vec<u8>) {
-    let proved = |list: &mut [u8]| proved::marks(speed, purpose, heights, list);
+    let proved = |list: &mut [u8]| bare(exports::marks(speed, purpose, heights, list));
     let second = |list: &mut [u8]| marks(speed, purpose, heights, list);
     let before = random.list(places, |bits| bits as u8);
     lent::compare(&before, proved, second, format_args!("speed {speed}, purpose {purpose}, {heights:?}"))
@@ -33,7 +33,7 @@ fn compare_all(random: &mut Random, speed: u32, purpose: u32, heights: &[i32]) -
 #[test]
 fn bits_of_the_example() {
     let mut heights = [0; 301];
-    assert_eq!(proved::heights(&EXAMPLE, &mut heights), Ok(301));
+    assert_eq!(exports::file_heights(&EXAMPLE, &mut heights), Ok(301));
     let whole = whole_heights(&heights);
     for (i, mark) in compare_all(&mut Random::new(22), 20, 1, &heights).into_iter().enumerate() {
         let sight = |farthest: u32| available_sight(&whole, Look { eye: EYE, object: OBJECT, farthest }, i);

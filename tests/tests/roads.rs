@@ -1,8 +1,8 @@
 //! Document 01, "The road and its heights" and "Road file": heights are filled from a road file, and the file is
 //! written again from its road.
 
+use sight_tests::bare;
 use sight_tests::lent;
-use sight_tests::proved;
 use sight_tests::random::Random;
 use sight_tests::reference::file::{bytes, file_heights, read, rewrite};
 use sight_tests::reference::road::{Curve, Road};
@@ -21,14 +21,14 @@ fn road(first_grade: i16, curves: &[Curve]) -> Road {
 
 /// The program fills `places` numbers with heights just as the second calculation does, and the rest stays.
 fn compare_heights(random: &mut Random, file: &[u8], places: usize) -> Answer {
-    let proved = |list: &mut [i32]| proved::heights(file, list);
+    let proved = |list: &mut [i32]| bare(exports::file_heights(file, list));
     let second = |list: &mut [i32]| file_heights(file, list);
     lent::compare(&random.list(places, |bits| bits as i32), proved, second, format_args!("{file:02X?}")).0
 }
 
 /// The program writes into `places` bytes just as the second calculation does, and the rest stays.
 fn compare_rewriting(random: &mut Random, file: &[u8], places: usize) -> Answer {
-    let proved = |buffer: &mut [u8]| proved::rewrite(file, buffer);
+    let proved = |buffer: &mut [u8]| bare(exports::rewrite(file, buffer));
     let second = |buffer: &mut [u8]| rewrite(file, buffer);
     let before = random.list(places, |bits| bits as u8);
     let (answer, written) = lent::compare(&before, proved, second, format_args!("{file:02X?}"));
@@ -82,7 +82,7 @@ fn cases_of_document_01() {
     for (length, heights_there) in cases {
         let file = bytes(&road(300, &[curve(50, length, -300)]));
         let (mut filled, mut second) = ([0; 101], [0; 101]);
-        assert_eq!(proved::heights(&file, &mut filled), Ok(101));
+        assert_eq!(exports::file_heights(&file, &mut filled), Ok(101));
         assert_eq!(file_heights(&file, &mut second), Ok(101));
         for &(station, height) in heights_there {
             assert_eq!(filled[station], height, "program, length {length}, station {station}");

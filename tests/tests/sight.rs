@@ -1,8 +1,8 @@
 //! Document 01, "What can be seen": sight over lent heights, over those of roads, and on the exact parabolas and
 //! straights.
 
+use sight_tests::bare;
 use sight_tests::lent;
-use sight_tests::proved;
 use sight_tests::random::Random;
 use sight_tests::reference::distances::required_distance;
 use sight_tests::reference::file::bytes;
@@ -19,6 +19,11 @@ fn look(eye: u32, object: u32, farthest: u32) -> Look {
     Look { eye, object, farthest }
 }
 
+/// The same, as the proved functions are asked.
+fn asked(look: Look) -> exports::Look {
+    exports::Look { eye: look.eye, object: look.object, farthest: look.farthest }
+}
+
 /// A look in which low eyes and objects are as likely as high ones.
 fn any_look(random: &mut Random, farthest: u32) -> Look {
     look(random.of_any_size(50_000), random.of_any_size(50_000), random.of_any_size(farthest))
@@ -26,14 +31,14 @@ fn any_look(random: &mut Random, farthest: u32) -> Look {
 
 /// The program's sight from one station, which is that of the second calculation.
 fn compare_sight(heights: &[i32], station: u32, look: Look) -> Answer {
-    let answer = proved::sight(heights, station, look);
+    let answer = bare(exports::sight(heights, station, asked(look)));
     assert_eq!(answer, sight(heights, station, look), "station {station}, {look:?}, {heights:?}");
     answer
 }
 
 /// The program fills `places` numbers with sights just as the second calculation does, and the rest stays.
 fn compare_profile(random: &mut Random, heights: &[i32], look: Look, places: usize) -> (Answer, Vec<u16>) {
-    let proved = |list: &mut [u16]| proved::profile(heights, look, list);
+    let proved = |list: &mut [u16]| bare(exports::sight_profile(heights, asked(look), list));
     let second = |list: &mut [u16]| sight_profile(heights, look, list);
     lent::compare(&random.list(places, |bits| bits as u16), proved, second, format_args!("{look:?}, {heights:?}"))
 }
@@ -47,7 +52,11 @@ fn compare_all(random: &mut Random, heights: &[i32], look: Look) -> Vec<u16> {
     assert_eq!(compare_profile(random, heights, look, stations - 1).0, Err(14));
     sights.truncate(stations);
     for (station, &there) in (0..).zip(&sights) {
-        assert_eq!(proved::sight(heights, station, look), Ok(there.into()), "station {station}, {look:?}, {heights:?}");
+        assert_eq!(
+            exports::sight(heights, station, asked(look)),
+            Ok(there.into()),
+            "station {station}, {look:?}, {heights:?}"
+        );
     }
     sights
 }
@@ -55,7 +64,7 @@ fn compare_all(random: &mut Random, heights: &[i32], look: Look) -> Vec<u16> {
 /// The heights of an accepted road, as the program fills them.
 fn program_heights(road: &Road) -> Vec<i32> {
     let mut heights = vec![0; road.length as usize + 1];
-    assert_eq!(proved::heights(&bytes(road), &mut heights), Ok(road.length + 1), "{road:?}");
+    assert_eq!(exports::file_heights(&bytes(road), &mut heights), Ok(road.length + 1), "{road:?}");
     heights
 }
 
@@ -277,7 +286,7 @@ fn accuracy_rule() {
         let object = random.one_of(&[1, 2, 5, 50, 500, OBJECT, 50_000]);
         let look = look(eye, object, random.one_of(&[60, 60, 20, 8_000]));
         let mut sights = vec![0; road.length as usize + 1];
-        assert_eq!(proved::profile(&program_heights(&road), look, &mut sights), Ok(road.length + 1));
+        assert_eq!(exports::sight_profile(&program_heights(&road), asked(look), &mut sights), Ok(road.length + 1));
         let exact = exact_heights(&road);
         let lower = Look { eye: eye - 1, object: object - 1, ..look };
         let higher = Look { eye: eye + 1, object: object + 1, ..look };

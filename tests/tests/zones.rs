@@ -1,14 +1,14 @@
 //! Document 01, "Marks and zones": the zones of lent marks.
 
+use sight_tests::bare;
 use sight_tests::lent;
-use sight_tests::proved;
 use sight_tests::random::Random;
 use sight_tests::reference::marks::{runs, zones};
 use sight_tests::reference::Answer;
 
 /// The program writes zones into `places` numbers just as the second calculation does, and the rest stays.
 fn compare(random: &mut Random, marks: &[u8], bit: u32, places: usize) -> (Answer, Vec<u16>) {
-    let proved = |list: &mut [u16]| proved::zones(marks, bit, list);
+    let proved = |list: &mut [u16]| bare(exports::zones(marks, bit, list));
     let second = |list: &mut [u16]| zones(marks, bit, list);
     lent::compare(&random.list(places, |bits| bits as u16), proved, second, format_args!("bit {bit}, {marks:02X?}"))
 }

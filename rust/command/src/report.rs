@@ -1,16 +1,9 @@
 //! A judgement in words, in columns that line up.
 
+use picture::MEANINGS;
+
 use crate::judgement::Judgement;
 use crate::purpose;
-
-/// What the zones of each letter are.
-const ZONES: [&str; 5] = [
-    "stopping sight lacking",
-    "decision sight lacking",
-    "reduced decision zone",
-    "stopping not judged",
-    "decision not judged",
-];
 
 /// The places of the zones where sight is lacking and where it is not judged, for stopping and for the decision.
 const STOPPING: [usize; 2] = [0, 3];
@@ -64,7 +57,7 @@ fn sum(judgement: &Judgement, name: &str, distance: u32, [lacking, not_judged]: 
 
 /// The rows of a letter's zones.
 fn zone_rows(judgement: &Judgement, zone: usize, first_station: u32) -> Vec<Row> {
-    let name = ZONES[zone].to_string();
+    let name = MEANINGS[zone].to_string();
     if judgement.zones[zone].is_empty() {
         return vec![vec![name, "nowhere".to_string()]];
     }
@@ -85,7 +78,7 @@ pub fn report(name: &str, judgement: &Judgement, first_station: u32) -> String {
         sum(judgement, "decision", decision, DECISION),
     ];
     let mut zones = vec![row(["zone", "from", "to", "length"])];
-    zones.extend((0..ZONES.len()).flat_map(|zone| zone_rows(judgement, zone, first_station)));
+    zones.extend((0..MEANINGS.len()).flat_map(|zone| zone_rows(judgement, zone, first_station)));
     let purpose = purpose::name(purpose);
     format!(
         "{name}: stations {first_station} to {last_station}, {speed} km/h, {purpose}\n\n{}\n{}",

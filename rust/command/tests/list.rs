@@ -5,7 +5,7 @@ mod common;
 use std::fs;
 
 use common::{folder, run, run_with, Ended};
-use sight_tests::program;
+use sight_tests::lister;
 use sight_tests::random::Random;
 use sight_tests::reference::file::{bytes, read};
 use sight_tests::reference::listing::listing;
@@ -81,7 +81,7 @@ fn same_as_the_lister() {
     let mut random = Random::new(82);
     for round in 0..400 {
         let file = any_file(&mut random, round);
-        assert_eq!(run_with(&folder, &["list", "-"], &file).0.output, program::output("lister", &file), "{file:02X?}");
+        assert_eq!(run_with(&folder, &["list", "-"], &file).0.output, lister::output(&file), "{file:02X?}");
     }
 }
 

@@ -5,36 +5,10 @@ mod common;
 use std::fs;
 
 use common::{expect, expect_error, folder, names, root, run_with};
-use picture::{Curve, Profile};
+use sight_tests::drawn::Drawn;
 use sight_tests::random::Random;
-use sight_tests::reference::distances::required_distance;
 use sight_tests::reference::file::bytes;
-use sight_tests::reference::marks::{mark_road_file, runs};
-use sight_tests::reference::road::{stored_height, Road};
 use sight_tests::roads;
-
-/// The picture with the numbers of the second calculation.
-fn second(road: &Road) -> String {
-    let mut marks = vec![0; road.length as usize + 1];
-    mark_road_file(&bytes(road), &mut marks).expect("the road is accepted");
-    let distance = |purpose: u8| required_distance(road.speed.into(), purpose.into()).expect("the speed is accepted");
-    let curve = |curve: &sight_tests::reference::road::Curve| Curve {
-        pvi: curve.pvi,
-        length: curve.length.into(),
-        grade_out: curve.grade_out.into(),
-    };
-    let heights: Vec<i32> = (0..=road.length).map(|station| stored_height(road, station)).collect();
-    picture::svg(&Profile {
-        speed: road.speed.into(),
-        purpose: road.purpose.into(),
-        stopping: distance(0),
-        decision: distance(road.purpose),
-        first_grade: road.first_grade.into(),
-        curves: &road.curves.iter().map(curve).collect::<Vec<_>>(),
-        heights: &heights,
-        zones: &[0, 1, 2, 3, 4].map(|bit| runs(&marks, bit)),
-    })
-}
 
 #[test]
 fn random_roads() {
@@ -47,7 +21,7 @@ fn random_roads() {
         road.speed = random.one_of(&[20, 30, 130]);
         let ended = run_with(&folder, &["plot", "-"], &bytes(&road)).0;
         assert_eq!((ended.errors.as_str(), ended.status), ("", 0), "{road:?}");
-        assert!(ended.output == second(&road), "{road:?}");
+        assert!(ended.output == Drawn::of(&road).picture(&road), "{road:?}");
     }
 }
 

@@ -134,7 +134,7 @@ pub fn file_heights(file: &[u8], list: &mut [i32]) -> Result<u32, Refusal> {
 }
 
 /// Writes the listing of a road file, for a refused one the line of its refusal. A buffer of [`GREATEST_LISTING`] bytes holds
-/// any. The call needs about 600 KiB of the thread's stack.
+/// any. The call needs about 320 KiB of the thread's stack.
 ///
 /// # Errors
 /// Refused 14 if the buffer is too short.

@@ -2,7 +2,7 @@
 
 use std::fmt::{self, Formatter};
 
-use crate::sheet::{multiples, step, BOTTOM, HEIGHT, LEFT, METRE, RIGHT, TOP, WIDTH};
+use crate::sheet::{multiples, step, BOTTOM, HEIGHT, LEFT, METRE, RIGHT, STATIONS, TOP, WIDTH};
 use crate::Picture;
 
 // How many steps an axis has at most.
@@ -20,14 +20,14 @@ impl Picture<'_> {
         if length % step > length / 32 {
             self.station_tick(out, length)?;
         }
-        writeln!(out, r#"<text x="153000" y="64000">station, m</text>"#)
+        writeln!(out, r#"<text x="153000" y="{STATIONS}">station, m</text>"#)
     }
 
     /// A line at a station, through the plot and the strips, and its number.
     fn station_tick(&self, out: &mut Formatter, station: i64) -> fmt::Result {
         let x = self.sheet.x(station);
         write!(out, r#"<path class="grid" d="M{x} {TOP}V{BOTTOM}M{x} 66800V88600"/>"#)?;
-        writeln!(out, r#"<text class="middle" x="{x}" y="64000">{station}</text>"#)
+        writeln!(out, r#"<text class="middle" x="{x}" y="{STATIONS}">{station}</text>"#)
     }
 
     /// The heights in round steps, from the plot's lower edge to its upper one, and the plot's frame.

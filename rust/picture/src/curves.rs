@@ -2,6 +2,7 @@
 
 use std::fmt::{self, Formatter};
 
+use crate::sheet::SHAPES;
 use crate::{Curve, Picture};
 
 /// What the shapes stand for.
@@ -10,8 +11,8 @@ const KEY: &str = r#"<path class="crest" d="M1500 11700Q2500 9700 3500 11700Z"/>
 <path class="crest" d="M14100 11700L14650 10700L15200 11700Z"/><text x="15700" y="11650">break</text>
 "#;
 
-/// There is room for the numbers of so many curves.
-const ROOM_FOR: i64 = 64;
+/// The numbers of curves are a sixty-fourth of the road apart.
+const NUMBERS: i64 = 64;
 
 impl Picture<'_> {
     /// The curves behind a key of their shapes, each a crest or a sag by the grades before and behind it. One that changes no
@@ -43,17 +44,17 @@ impl Picture<'_> {
         let [from, middle, to] = [pvi - half, pvi, pvi + half].map(|station| self.sheet.x(station));
         if curve.length == 0 {
             let triangle = if crest { "M-550 0L0-1000L550 0Z" } else { "M-550-1000L0 0L550-1000Z" };
-            writeln!(out, r#"<path class="{class}" d="{triangle}" transform="translate({middle} 13000)"/>"#)
+            writeln!(out, r#"<path class="{class}" d="{triangle}" transform="translate({middle} {SHAPES})"/>"#)
         } else {
-            let (ends, bend) = if crest { (13_000, 11_000) } else { (12_000, 14_000) };
+            let (ends, bend) = if crest { (SHAPES, SHAPES - 2_000) } else { (SHAPES - 1_000, SHAPES + 1_000) };
             writeln!(out, r#"<path class="{class}" d="M{from} {ends}Q{middle} {bend} {to} {ends}Z"/>"#)
         }
     }
 
-    /// The curves' numbers, above them; one that would touch the one before it is left out.
+    /// The curves' numbers, above them, where there is room.
     pub fn curve_numbers(&self, out: &mut Formatter) -> fmt::Result {
         let numbers = self.profile.curves.iter().map(|curve| i64::from(curve.pvi)).zip(1..);
-        for (pvi, number) in self.sheet.apart(numbers, ROOM_FOR) {
+        for (pvi, number) in self.sheet.apart(numbers, NUMBERS) {
             writeln!(out, r#"<text class="middle" x="{}" y="11500">{number}</text>"#, self.sheet.x(pvi))?;
         }
         Ok(())

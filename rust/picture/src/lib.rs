@@ -1,14 +1,15 @@
 //! A road's picture, in SVG: its profile, the zones along it, and its curves.
 //!
 //! This only draws. Heights, distances and zones are handed over as the proved functions give them, and where they lie on
-//! the sheet is worked out in whole numbers. Any numbers are drawn: what would lie outside the plot lies at its edge.
+//! the sheet is worked out in whole numbers. Any numbers are drawn: what would lie outside the plot lies at its edge, and only
+//! the bar of a zone that is narrower than it can be seen may reach a little further.
 
 #![forbid(unsafe_code)]
 #![deny(missing_docs)]
 
 use std::fmt::{self, Formatter};
 
-use crate::sheet::{Sheet, BOTTOM, LEFT, RIGHT};
+use crate::sheet::{Sheet, BOTTOM, LEFT, RIGHT, SHEET_HEIGHT, SHEET_WIDTH};
 
 mod axes;
 mod curves;
@@ -77,20 +78,19 @@ struct Picture<'a> {
     sheet: Sheet,
 }
 
-/// The sheet's size, its styles and its ground.
-const OPENING: &str = concat!(
-    r#"<svg xmlns="http://www.w3.org/2000/svg" viewBox="0 0 160000 90000" width="1600" height="900">"#,
-    "\n<style>\n",
-    include_str!("style.css"),
-    "</style>\n",
-    r##"<rect width="160000" height="90000" fill="#fff"/>"##,
-    "\n",
-);
+/// What the zones of the letters S, D, R, s and d are.
+pub const MEANINGS: [&str; 5] = [
+    "stopping sight lacking",
+    "decision sight lacking",
+    "reduced decision zone",
+    "stopping not judged",
+    "decision not judged",
+];
 
 impl fmt::Display for Picture<'_> {
     /// What is drawn later lies above what was drawn before.
     fn fmt(&self, out: &mut Formatter) -> fmt::Result {
-        out.write_str(OPENING)?;
+        self.opening(out)?;
         self.headings(out)?;
         self.earth(out)?;
         self.tint(out)?;
@@ -105,6 +105,14 @@ impl fmt::Display for Picture<'_> {
 }
 
 impl Picture<'_> {
+    /// The sheet's size, its styles and its ground.
+    fn opening(&self, out: &mut Formatter) -> fmt::Result {
+        write!(out, r#"<svg xmlns="http://www.w3.org/2000/svg" viewBox="0 0 {SHEET_WIDTH} {SHEET_HEIGHT}" "#)?;
+        writeln!(out, r#"width="{}" height="{}">"#, SHEET_WIDTH / 100, SHEET_HEIGHT / 100)?;
+        writeln!(out, "<style>\n{}</style>", include_str!("style.css"))?;
+        writeln!(out, r##"<rect width="{SHEET_WIDTH}" height="{SHEET_HEIGHT}" fill="#fff"/>"##)
+    }
+
     /// The title, and below it the speed, the distances that it needs, and the exaggeration.
     fn headings(&self, out: &mut Formatter) -> fmt::Result {
         let Profile { speed, purpose, stopping, decision, .. } = self.profile;

@@ -3,6 +3,10 @@
 //! Coordinates are whole hundredths of a pixel, x to the right and y down, on a sheet of 1,600 by 900 pixels. Stations are
 //! metres, and heights h-units.
 
+// The sheet.
+pub const SHEET_WIDTH: i64 = 160_000;
+pub const SHEET_HEIGHT: i64 = 90_000;
+
 // The edges of the plot, which the profile is drawn in.
 pub const LEFT: i64 = 22_000;
 pub const RIGHT: i64 = 150_000;
@@ -11,6 +15,18 @@ pub const BOTTOM: i64 = 62_000;
 
 pub const WIDTH: i64 = RIGHT - LEFT;
 pub const HEIGHT: i64 = BOTTOM - TOP;
+
+/// Where the curves' shapes stand, above the plot.
+pub const SHAPES: i64 = 13_000;
+
+/// Where the stations' numbers stand, below the plot.
+pub const STATIONS: i64 = 64_000;
+
+// The strips of zones: where the first begins, how far it is to the next, and where a strip's bars begin and how high they are.
+pub const STRIPS: i64 = 66_500;
+pub const STRIP_STEP: i64 = 4_400;
+pub const BARS: i64 = 1_500;
+pub const BAR_HEIGHT: i64 = 1_800;
 
 /// A metre in h-units.
 pub const METRE: i64 = 10_000;
@@ -21,8 +37,8 @@ const PROFILE_ROOM: i64 = 40_000;
 /// The least width of a zone, so that one of a single station is seen.
 const LEAST_ZONE: i64 = 250;
 
-/// How many times heights may be stretched, the largest first.
-const EXAGGERATIONS: [i64; 9] = [500, 200, 100, 50, 20, 10, 5, 2, 1];
+/// How many times heights may be stretched, the largest first; where none finds room, not at all.
+const EXAGGERATIONS: [i64; 8] = [500, 200, 100, 50, 20, 10, 5, 2];
 
 /// How a road lies on the sheet.
 pub struct Sheet {
@@ -80,9 +96,10 @@ impl Sheet {
         BOTTOM - (self.exaggeration * WIDTH * above).checked_div(self.length * METRE).unwrap_or(0)
     }
 
-    /// The labels that do not touch the one before, each with its station. There is room for so many along the road.
-    pub fn apart<T>(&self, labels: impl Iterator<Item = (i64, T)>, room_for: i64) -> impl Iterator<Item = (i64, T)> {
-        let room = self.length / room_for;
+    /// The labels with room between them, each with its station: one that is nearer to the last one kept than one part of so
+    /// many of the road is left out.
+    pub fn apart<T>(&self, labels: impl Iterator<Item = (i64, T)>, parts: i64) -> impl Iterator<Item = (i64, T)> {
+        let room = self.length / parts;
         let mut free = 0;
         labels.filter(move |&(station, _)| {
             let fits = free <= station;

@@ -2,20 +2,14 @@
 
 use std::fmt::{self, Formatter};
 
-use crate::sheet::{HEIGHT, LEFT, RIGHT, TOP};
-use crate::Picture;
+use crate::sheet::{BARS, BAR_HEIGHT, HEIGHT, LEFT, RIGHT, SHEET_HEIGHT, STRIPS, STRIP_STEP, TOP};
+use crate::{Picture, MEANINGS};
 
-/// The strips in the order of a profile's zones: class, letter and meaning.
-const STRIPS: [[&str; 3]; 5] = [
-    ["S", "S", "stopping sight lacking"],
-    ["D", "D", "decision sight lacking"],
-    ["R", "R", "reduced decision zone"],
-    ["ns", "s", "stopping not judged"],
-    ["nd", "d", "decision not judged"],
-];
+/// The classes and letters of the strips, in the order of a profile's zones.
+const LETTERS: [[&str; 2]; 5] = [["S", "S"], ["D", "D"], ["R", "R"], ["ns", "s"], ["nd", "d"]];
 
-/// There is room for the stations of so many zones.
-const ROOM_FOR: i64 = 20;
+/// The labels of zones are a twentieth of the road apart.
+const LABELS: i64 = 20;
 
 /// The profile's line in the parts that are cut out of it.
 const ROAD: &str = r##"<use href="#profile" class="road ns" clip-path="url(#ns)"/>
@@ -37,7 +31,7 @@ impl Picture<'_> {
     pub fn road(&self, out: &mut Formatter) -> fmt::Result {
         let [lacking, _, reduced, not_judged, _] = self.profile.zones;
         let right = not_judged.first().map_or(RIGHT, |&[first, _]| self.sheet.zone_left(first));
-        writeln!(out, r#"<clipPath id="judged"><path d="M0 0H{right}V90000H0Z"/></clipPath>"#)?;
+        writeln!(out, r#"<clipPath id="judged"><path d="M0 0H{right}V{SHEET_HEIGHT}H0Z"/></clipPath>"#)?;
         for (id, zones) in [("S", lacking), ("R", reduced), ("ns", not_judged)] {
             writeln!(out, r#"<clipPath id="{id}">"#)?;
             self.bars(out, zones, TOP, HEIGHT)?;
@@ -57,31 +51,39 @@ impl Picture<'_> {
 
     /// A strip for each letter.
     pub fn strips(&self, out: &mut Formatter) -> fmt::Result {
-        for ((place, strip), zones) in (0..).zip(STRIPS).zip(self.profile.zones) {
-            self.strip(out, strip, 66_500 + 4_400 * place, zones)?;
+        let tops = (0..).map(|place| STRIPS + STRIP_STEP * place);
+        for (((letter, meaning), zones), top) in LETTERS.into_iter().zip(MEANINGS).zip(self.profile.zones).zip(tops) {
+            self.strip(out, letter, meaning, zones, top)?;
         }
         Ok(())
     }
 
     /// A strip, in a group of its class: the letter and its meaning, a bar for each zone, their stations and their number.
-    fn strip(&self, out: &mut Formatter, strip: [&str; 3], top: i64, zones: &[[u16; 2]]) -> fmt::Result {
-        let [class, letter, meaning] = strip;
+    fn strip(
+        &self,
+        out: &mut Formatter,
+        [class, letter]: [&str; 2],
+        meaning: &str,
+        zones: &[[u16; 2]],
+        top: i64,
+    ) -> fmt::Result {
+        let foot = BARS + BAR_HEIGHT;
         writeln!(out, r#"<g class="{class}" transform="translate(0 {top})">"#)?;
-        writeln!(out, r#"<path class="lane" d="M{LEFT} 1500H{RIGHT}V3300H{LEFT}Z"/>"#)?;
-        write!(out, r#"<path d="M1500 1500H3100V3300H1500Z"/><text x="3800" y="2850">"#)?;
+        writeln!(out, r#"<path class="lane" d="M{LEFT} {BARS}H{RIGHT}V{foot}H{LEFT}Z"/>"#)?;
+        write!(out, r#"<path d="M1500 {BARS}H3100V{foot}H1500Z"/><text x="3800" y="2850">"#)?;
         writeln!(out, r#"<tspan class="letter">{letter}</tspan>&#160; {meaning}</text>"#)?;
-        self.bars(out, zones, 1_500, 1_800)?;
+        self.bars(out, zones, BARS, BAR_HEIGHT)?;
         self.zone_labels(out, zones)?;
         let plural = if zones.len() == 1 { "" } else { "s" };
         writeln!(out, r#"<text x="151200" y="2850">{} zone{plural}</text>"#, zones.len())?;
         writeln!(out, "</g>")
     }
 
-    /// The zones' first and last stations, above them; a label that would touch the one before it is left out.
+    /// The zones' first and last stations, above them, where there is room.
     fn zone_labels(&self, out: &mut Formatter, zones: &[[u16; 2]]) -> fmt::Result {
         let middle = |&[first, last]: &[u16; 2]| (i64::from(first) + i64::from(last)) / 2;
         let labels = zones.iter().map(|zone| (middle(zone), zone));
-        for (middle, [first, last]) in self.sheet.apart(labels, ROOM_FOR) {
+        for (middle, [first, last]) in self.sheet.apart(labels, LABELS) {
             write!(out, r#"<text class="zone" x="{}" y="1200">{first}"#, self.sheet.x(middle))?;
             if first < last {
                 write!(out, "&#8211;{last}")?;

@@ -95,7 +95,7 @@ fn texts_beside_the_road_files() {
     }
 }
 
-/// From bytes to text and back nothing is lost; and a text that was not written by the program is read as it stands.
+/// From bytes to text and back nothing is lost; and a text of another hand is read as it stands.
 #[test]
 fn random_roads_there_and_back() {
     let mut random = Random::new(51);
@@ -157,7 +157,7 @@ fn example_of_the_format() {
     assert_eq!(road_file(&text), Ok(bytes(&road)));
 }
 
-/// The program's own text, byte by byte.
+/// The text of a road, byte by byte.
 #[test]
 fn text_of_a_road() {
     let road = Road {

@@ -67,13 +67,15 @@ fn labels_give_way() {
 fn numbers_of_the_axes() {
     let heights = |length: usize, height: i32| {
         let all = Elements::of(&svg(&profile(&vec![height; length + 1], &[], &NO_ZONES)));
-        all.with("class", "height").map(|element| element.text.replace("&#8722;", "-")).collect::<Vec<_>>()
+        all.with("class", "height").map(|element| element.text.clone()).collect::<Vec<_>>()
     };
+    let signed = |numbers: &[&str]| numbers.iter().map(|number| number.replace('-', "&#8722;")).collect::<Vec<_>>();
     let below_zero = ["-0.0003", "-0.0002", "-0.0001", "0.0000", "0.0001", "0.0002", "0.0003", "0.0004"];
-    assert_eq!(heights(1, 0), below_zero);
-    assert_eq!(heights(10, -100_000), ["-10.003", "-10.002", "-10.001", "-10.000", "-9.999", "-9.998", "-9.997"]);
+    assert_eq!(heights(1, 0), signed(&below_zero));
+    let around_ten = ["-10.003", "-10.002", "-10.001", "-10.000", "-9.999", "-9.998", "-9.997"];
+    assert_eq!(heights(10, -100_000), signed(&around_ten));
     assert_eq!(heights(100, 123_400), ["12.31", "12.32", "12.33", "12.34", "12.35", "12.36", "12.37"]);
-    assert_eq!(heights(1_280, 0), ["-0.4", "-0.3", "-0.2", "-0.1", "0.0", "0.1", "0.2", "0.3", "0.4"]);
+    assert_eq!(heights(1_280, 0), signed(&["-0.4", "-0.3", "-0.2", "-0.1", "0.0", "0.1", "0.2", "0.3", "0.4"]));
     assert_eq!(heights(8_000, 90_000_000), ["8997", "8998", "8999", "9000", "9001", "9002", "9003"]);
 
     let stations = |length: usize| {
@@ -117,6 +119,13 @@ fn a_profile_without_room() {
     assert_eq!(all.only("id", "profile").1.points(), [(22_000, 62_000), (86_000, 14_000), (150_000, 38_000)]);
 }
 
+/// A road of one station has no length: it is at the left edge, and at the lower one.
+#[test]
+fn a_road_of_one_station() {
+    let all = Elements::of(&svg(&profile(&[7], &[], &NO_ZONES)));
+    assert_eq!(all.only("id", "profile").1.points(), [(22_000, 62_000)]);
+}
+
 /// Whatever the numbers, there is a picture, and what it shows is on the sheet.
 #[test]
 fn absurd_numbers() {
@@ -156,10 +165,11 @@ fn on_the_sheet(all: &Elements) {
     for (place, _) in all.0.iter().enumerate().filter(|(_, element)| element.name == "g") {
         for [x, _, width, _] in all.rectangles(place) {
             assert!(across.contains(&x) && (250..=WIDTH).contains(&width), "{x}, {width}");
+            assert!(x + width <= LEFT + WIDTH + 250, "{x}, {width}");
         }
     }
     for Outline { points, .. } in &all.outlines()[3..] {
         assert!(points.iter().all(|(x, y)| (0..=160_000).contains(x) && (0..=90_000).contains(y)), "{points:?}");
     }
-    assert!(all.with("class", "grid").count() <= 18 + 11);
+    assert!(all.with("class", "grid").count() <= 17 + 1 + 11);
 }

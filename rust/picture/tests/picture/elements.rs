@@ -91,6 +91,9 @@ impl Elements {
             if let Some(name) = tag.strip_prefix('/') {
                 let last: usize = open.pop().expect("a tag is closed that was opened");
                 assert_eq!(found[last].name, name);
+                if let Some(&around) = open.last() {
+                    found[around].text += behind;
+                }
                 continue;
             }
             let (body, whole) = tag.strip_suffix('/').map_or((tag, false), |body| (body, true));
@@ -128,6 +131,12 @@ impl Elements {
     pub fn outlines(&self) -> Vec<Outline> {
         let paths = self.0.iter().filter(|element| ["pvi", "crest", "sag"].contains(&element.get("class")));
         paths.map(Element::outline).collect()
+    }
+
+    /// The texts in a group, those of the parts of a text too.
+    pub fn words(&self, group: usize) -> impl Iterator<Item = &str> {
+        let texts = self.0.iter().filter(move |element| element.within.contains(&group));
+        texts.map(|element| element.text.trim_end()).filter(|text| !text.is_empty())
     }
 
     /// The rectangles in a group: x, y, width and height.

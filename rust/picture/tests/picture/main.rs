@@ -1,17 +1,14 @@
 //! Pictures, taken apart and compared with a separately written calculation. Heights, distances and zones are those of the
-//! second calculation too, so that nothing here needs the proved functions.
+//! second calculation too.
 
-use std::array;
 use std::fs;
 use std::path::Path;
 
-use picture::{svg, Curve, Profile};
+use sight_tests::drawn::Drawn;
 use sight_tests::random::Random;
-use sight_tests::reference::distances::required_distance;
 use sight_tests::reference::file::read;
-use sight_tests::reference::marks::{marks, runs};
-use sight_tests::reference::road::{heights, Road};
-use sight_tests::roads;
+use sight_tests::reference::road::Road;
+use sight_tests::roads::{self, EXAMPLE};
 
 use crate::elements::{Element, Elements};
 use crate::rules::{Plot, HEIGHT, LEFT, TOP, WIDTH};
@@ -20,73 +17,36 @@ mod by_hand;
 mod elements;
 mod rules;
 
-/// The classes of the strips, in the order of a profile's zones.
-const STRIPS: [&str; 5] = ["S", "D", "R", "ns", "nd"];
-
-/// What the second calculation knows of a road.
-struct Known {
-    distances: [u32; 2],
-    curves: Vec<Curve>,
-    heights: Vec<i32>,
-    zones: [Vec<[u16; 2]>; 5],
-}
-
-impl Known {
-    fn of(road: &Road) -> Known {
-        let (speed, purpose) = (road.speed.into(), road.purpose.into());
-        let mut list = vec![0; road.length as usize + 1];
-        heights(road, &mut list).expect("the road is accepted");
-        let mut marked = vec![0; list.len()];
-        marks(speed, purpose, &list, &mut marked).expect("the heights are marked");
-        let curves = road.curves.iter().map(|curve| Curve {
-            pvi: curve.pvi,
-            length: curve.length.into(),
-            grade_out: curve.grade_out.into(),
-        });
-        Known {
-            distances: [0, purpose].map(|purpose| required_distance(speed, purpose).expect("the road is accepted")),
-            curves: curves.collect(),
-            heights: list,
-            zones: array::from_fn(|bit| runs(&marked, bit as u32)),
-        }
-    }
-
-    fn picture(&self, road: &Road) -> String {
-        let [stopping, decision] = self.distances;
-        svg(&Profile {
-            speed: road.speed.into(),
-            purpose: road.purpose.into(),
-            stopping,
-            decision,
-            first_grade: road.first_grade.into(),
-            curves: &self.curves,
-            heights: &self.heights,
-            zones: &self.zones,
-        })
-    }
-}
+/// The strips in the order of a profile's zones: class, letter and meaning.
+const STRIPS: [[&str; 3]; 5] = [
+    ["S", "S", "stopping sight lacking"],
+    ["D", "D", "decision sight lacking"],
+    ["R", "R", "reduced decision zone"],
+    ["ns", "s", "stopping not judged"],
+    ["nd", "d", "decision not judged"],
+];
 
 // ---- the comparison
 /// Compares a road's picture with the second calculation, and answers how many zones it has.
 fn compare(road: &Road) -> usize {
-    let known = Known::of(road);
-    let plot = Plot::of(&known.heights);
-    let text = known.picture(road);
+    let drawn = Drawn::of(road);
+    let plot = Plot::of(&drawn.heights);
+    let text = drawn.picture(road);
     let all = Elements::of(&text);
     assert_eq!(all.0[0].name, "svg");
     assert_eq!(all.0[0].get("viewBox"), "0 0 160000 90000");
-    compare_headings(road, &known, &plot, &text);
-    compare_profile(&known, &plot, &all);
-    compare_zones(&known, &plot, &all);
-    compare_strips(&known, &plot, &all);
+    compare_headings(road, &drawn, &plot, &text);
+    compare_profile(&drawn, &plot, &all);
+    compare_zones(&drawn, &plot, &all);
+    compare_strips(&drawn, &plot, &all);
     compare_axes(&plot, &all);
-    compare_curves(road, &known, &plot, &all);
-    known.zones.iter().map(Vec::len).sum()
+    compare_curves(road, &drawn, &plot, &all);
+    drawn.zones.iter().map(Vec::len).sum()
 }
 
-fn compare_headings(road: &Road, known: &Known, plot: &Plot, text: &str) {
+fn compare_headings(road: &Road, drawn: &Drawn, plot: &Plot, text: &str) {
     let (length, speed, purpose) = (road.length, road.speed, road.purpose);
-    let ([stopping, decision], exaggeration) = (known.distances, plot.exaggeration);
+    let ([stopping, decision], exaggeration) = (drawn.distances, plot.exaggeration);
     let distances = format!("stopping sight {stopping} m, decision sight {decision} m (purpose {purpose});");
     for words in [
         format!("<title>Sight along the road, {length} m</title>"),
@@ -98,8 +58,8 @@ fn compare_headings(road: &Road, known: &Known, plot: &Plot, text: &str) {
     }
 }
 
-fn compare_profile(known: &Known, plot: &Plot, all: &Elements) {
-    let profile = plot.profile(&known.heights);
+fn compare_profile(drawn: &Drawn, plot: &Plot, all: &Elements) {
+    let profile = plot.profile(&drawn.heights);
     assert!(profile.iter().all(|&(_, y)| (TOP..=TOP + HEIGHT).contains(&y)), "the profile is in the plot");
     assert_eq!(all.only("id", "profile").1.points(), profile);
     let earth = [&[(LEFT, TOP + HEIGHT)], &profile[..], &[(LEFT + WIDTH, TOP + HEIGHT)]].concat();
@@ -107,23 +67,29 @@ fn compare_profile(known: &Known, plot: &Plot, all: &Elements) {
 }
 
 /// The tint of the plot and the parts that are cut out of the road.
-fn compare_zones(known: &Known, plot: &Plot, all: &Elements) {
-    let [lacking, _, reduced, not_judged, _] = &known.zones;
+fn compare_zones(drawn: &Drawn, plot: &Plot, all: &Elements) {
+    let [lacking, _, reduced, not_judged, _] = &drawn.zones;
     for (attribute, value, zones) in
         [("class", "tint", lacking), ("id", "S", lacking), ("id", "R", reduced), ("id", "ns", not_judged)]
     {
         let group = all.only(attribute, value).0;
         assert_eq!(all.rectangles(group), plot.zones(zones, TOP, HEIGHT), "{value}");
     }
+    let line = all.with("href", "#profile").map(|part| (part.get("class"), part.get("clip-path")));
+    let parts = [("road ns", "url(#ns)"), ("road", "url(#judged)"), ("road R", "url(#R)"), ("road S", "url(#S)")];
+    assert_eq!(line.collect::<Vec<_>>(), parts);
     let judged = all.only("id", "judged").0;
     let paths: Vec<_> = all.inside(judged).map(Element::path).collect();
     let right = plot.across(2 * i64::from(not_judged[0][0]) - 1);
     assert_eq!(paths, [("MHVHZ".to_string(), vec![0, 0, right, 90_000, 0])]);
 }
 
-fn compare_strips(known: &Known, plot: &Plot, all: &Elements) {
-    for (zones, class) in known.zones.iter().zip(STRIPS) {
-        let strip = all.only("class", class).0;
+fn compare_strips(drawn: &Drawn, plot: &Plot, all: &Elements) {
+    for (place, (zones, [class, letter, meaning])) in drawn.zones.iter().zip(STRIPS).enumerate() {
+        let (strip, group) = all.only("class", class);
+        assert_eq!(group.get("transform"), format!("translate(0 {})", 66_500 + 4_400 * place), "{class}");
+        let words = format!("&#160; {meaning}");
+        assert_eq!(all.words(strip).take(2).collect::<Vec<_>>(), [&words, letter], "{class}");
         assert_eq!(all.rectangles(strip), plot.zones(zones, 1_500, 1_800), "{class}");
         let labels = all.inside(strip).filter(|element| element.get("class") == "zone");
         assert_eq!(labels.map(Element::label).collect::<Vec<_>>(), plot.zone_labels(zones), "{class}");
@@ -147,6 +113,8 @@ fn compare_axes(plot: &Plot, all: &Elements) {
     });
     assert_eq!(numbers.collect::<Vec<_>>(), heights);
 
+    let [frame] = all.with("class", "frame").collect::<Vec<_>>()[..] else { panic!("one frame") };
+    assert_eq!(["x", "y", "width", "height"].map(|name| frame.number(name)), [LEFT, TOP, WIDTH, HEIGHT]);
     let upright = |&(x, _): &(i64, i64)| vec![x, TOP, TOP + HEIGHT, x, 66_800, 88_600];
     let across = |&(y, ..): &(i64, i64, usize)| vec![LEFT, y, LEFT + WIDTH];
     let lines: Vec<_> = stations.iter().map(upright).chain(heights.iter().map(across)).collect();
@@ -158,14 +126,15 @@ fn metres(text: &str) -> (i64, usize) {
     let size = text.strip_prefix("&#8722;").unwrap_or(text);
     let (whole, decimals) = size.split_once('.').unwrap_or((size, ""));
     assert_eq!(size.contains('.'), !decimals.is_empty(), "{text}");
+    assert!(size.bytes().all(|letter| letter == b'.' || letter.is_ascii_digit()), "{text}");
     let units: i64 = format!("{whole}{decimals:0<4}").parse().expect("digits");
     assert!(units != 0 || size == text, "zero has no sign");
     (if size == text { units } else { -units }, decimals.len())
 }
 
 /// The curves' shapes behind the three of the key, and their numbers.
-fn compare_curves(road: &Road, known: &Known, plot: &Plot, all: &Elements) {
-    assert_eq!(all.outlines()[3..], plot.curves(road, &known.heights), "{road:?}");
+fn compare_curves(road: &Road, drawn: &Drawn, plot: &Plot, all: &Elements) {
+    assert_eq!(all.outlines()[3..], plot.curves(road, &drawn.heights), "{road:?}");
     let numbers = all.with("y", "11500").map(Element::label);
     assert_eq!(numbers.collect::<Vec<_>>(), plot.curve_numbers(road));
 }
@@ -215,12 +184,16 @@ fn edges() {
     compare(&Road { speed: 30, ..roads::full(&mut Random::new(75)) });
 }
 
-/// The picture that ships with the repository, to the byte.
+/// Two pictures to the byte: the README's, which has curves, and that of document 01's example, which has a break.
 #[test]
-fn picture_of_the_readme() {
+fn pictures_that_were_looked_at() {
     let root = Path::new(env!("CARGO_MANIFEST_DIR")).join("../..");
-    let file = fs::read(root.join("roads/three-crests.vcp")).expect("the road ships with the repository");
-    let shown = fs::read_to_string(root.join("docs/three-crests.svg")).expect("so does its picture");
-    let road = read(&file).expect("the road is accepted");
-    assert!(Known::of(&road).picture(&road) == shown);
+    let three_crests = fs::read(root.join("roads/three-crests.vcp")).expect("the road ships with the repository");
+    for (file, picture) in [
+        (&three_crests[..], include_str!("../../../../docs/three-crests.svg")),
+        (&EXAMPLE, include_str!("example.svg")),
+    ] {
+        let road = read(file).expect("the road is accepted");
+        assert!(Drawn::of(&road).picture(&road) == picture, "{road:?}");
+    }
 }

@@ -1,0 +1,20 @@
+//! The lister, which `rt ci` proved and built.
+
+use std::io::Write;
+use std::path::Path;
+use std::process::{Command, Stdio};
+
+/// What it writes to standard output for a file on its standard input.
+pub fn output(file: &[u8]) -> String {
+    let program = Path::new(env!("CARGO_MANIFEST_DIR")).join("../target/bin/lister");
+    let mut running = Command::new(&program)
+        .stdin(Stdio::piped())
+        .stdout(Stdio::piped())
+        .spawn()
+        .unwrap_or_else(|error| panic!("{} does not run: {error}", program.display()));
+    // A file longer than any road's may be left unread in part.
+    let _ = running.stdin.take().expect("standard input is piped").write_all(file);
+    let output = running.wait_with_output().expect("it ends");
+    assert!(output.status.success(), "it failed on {file:02X?}");
+    String::from_utf8(output.stdout).expect("it writes text")
+}
