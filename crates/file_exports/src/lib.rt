@@ -27,8 +27,8 @@ pub extern "C" fn vcp_file_heights(file: &[u8], list: &mut [i32]) -> i64
 {
     let read = file::read(file);
     let verdict = read.verdict;
-    if let Verdict::Fault(number) = verdict {
-        return terms::signed_answer(Answer::Refused(number));
+    if let Verdict::Fault(refusal) = verdict {
+        return terms::signed_answer(Answer::Refused(refusal));
     }
     let road = read.road;
     terms::signed_answer(heights::heights(road, list))
