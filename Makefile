@@ -72,9 +72,8 @@ textable:
 
 # Times the proved functions beside the same calculations in safe Rust and beside the literal rule, and the listing of a
 # thousand roads beside their marking, and prints the tables. It takes two or three minutes.
-bench: tools $(LIBRARIES:%=target/staticlib/lib%.a)
-	cargo build --profile bench-run --offline --quiet --package command --package sight_tests
-	target/rust/bench-run/bench
+bench: vcp
+	cargo run --profile bench-run --offline --quiet --bin bench
 
 # Proves and builds a library for Rust, where what it is made from has changed.
 target/staticlib/lib%.a: $(SOURCES) | tools

@@ -31,6 +31,13 @@ const TIMES_RUST: f64 = 1.1;
 /// The least that the van is faster than the literal rule, on long roads.
 const TIMES_FASTER: f64 = 20.0;
 
+/// How many roads are listed in one call, and in how many rounds.
+const LISTED: usize = 1_000;
+const LISTING_ROUNDS: usize = 5;
+
+/// The longest that the listing of many roads may take beside their marking.
+const TIMES_MARKING: f64 = 1.2;
+
 /// The C library's clock of the time that this thread had on the processor, which Rust's own library does not offer.
 const THREAD_CLOCK: i32 = 3;
 
@@ -220,14 +227,7 @@ fn growth(roads: impl Iterator<Item = Road>) {
     }
 }
 
-/// How many roads are listed in one call, and in how many rounds.
-const LISTED: usize = 1_000;
-const LISTING_ROUNDS: usize = 5;
-
-/// The longest that their listing may take beside their marking.
-const TIMES_MARKING: f64 = 1.2;
-
-/// Files of long roads in a folder of their own, which is removed at the end.
+/// Files of roads in a folder of their own, which is removed at the end.
 struct Files {
     folder: PathBuf,
     paths: Vec<PathBuf>,
@@ -235,25 +235,44 @@ struct Files {
 }
 
 impl Files {
-    fn write(roads: &[Road]) -> Result<Files, Box<dyn error::Error>> {
+    fn write(roads: impl Iterator<Item = Road>) -> Result<Files, Box<dyn error::Error>> {
         let folder = env::temp_dir().join(format!("vcp-bench-{}", process::id()));
         fs::create_dir(&folder)?;
-        let mut files = Files { folder, paths: vec![], bytes: vec![] };
-        for (number, road) in roads.iter().cycle().take(LISTED).enumerate() {
+        let mut files = Files { folder, paths: vec![], bytes: roads.take(LISTED).map(|road| bytes(&road)).collect() };
+        for (number, file) in files.bytes.iter().enumerate() {
             files.paths.push(files.folder.join(format!("{number}.vcp")));
-            files.bytes.push(bytes(road));
-            fs::write(&files.paths[number], &files.bytes[number])?;
+            fs::write(&files.paths[number], file)?;
         }
         Ok(files)
     }
 
+    /// The command as `make install` ships it, on all files in one call.
+    fn command(&self) -> Result<Command, Box<dyn error::Error>> {
+        let own = env::current_exe()?;
+        let builds = own.ancestors().nth(2).ok_or("the bench stands in a folder of its profile")?;
+        let mut command = Command::new(builds.join("release/vcp"));
+        command.arg("list").args(&self.paths).stdin(Stdio::null());
+        Ok(command)
+    }
+
+    /// It prints the listing of each file.
+    fn check(&self) -> Result<(), Box<dyn error::Error>> {
+        let printed = self.command()?.output()?;
+        let mut text = vec![0; exports::GREATEST_LISTING];
+        let mut listings = Vec::new();
+        for file in &self.bytes {
+            let length = exports::list_road_file(file, &mut text)? as usize;
+            listings.extend_from_slice(&text[..length]);
+        }
+        assert!(printed.status.success() && printed.stdout == listings, "the roads are listed");
+        Ok(())
+    }
+
     /// The seconds of one call of `vcp list`.
     fn listing(&self) -> Result<f64, Box<dyn error::Error>> {
-        let mut command = Command::new(env::current_exe()?.with_file_name("vcp"));
-        command.arg("list").args(&self.paths).stdin(Stdio::null()).stdout(Stdio::null());
+        let mut command = self.command()?;
         let start = Instant::now();
-        let status = command.status()?;
-        assert!(status.success(), "the roads are listed");
+        assert!(command.stdout(Stdio::null()).status()?.success(), "the roads are listed");
         Ok(start.elapsed().as_secs_f64())
     }
 
@@ -262,7 +281,8 @@ impl Files {
         let mut marks = [0; vcp::MOST_STATIONS];
         let start = Instant::now();
         for file in &self.bytes {
-            let _ = black_box(vcp::mark_road_file(black_box(file), black_box(&mut marks)));
+            let answer = black_box(vcp::mark_road_file(black_box(file), black_box(&mut marks)));
+            assert!(answer.is_ok(), "the road is accepted");
         }
         start.elapsed().as_secs_f64()
     }
@@ -274,23 +294,29 @@ impl Drop for Files {
     }
 }
 
-/// The long roads at so many speeds and for so many purposes.
-fn long_roads(speeds: impl Iterator<Item = u8>, purposes: RangeInclusive<u8>) -> Vec<Road> {
+/// Long roads of all kinds, each with a speed and a purpose out of these.
+fn long_roads(speeds: RangeInclusive<u32>, purposes: RangeInclusive<u32>) -> impl Iterator<Item = Road> {
     let kinds: Vec<Road> = roads().into_iter().map(|(_, road)| road).filter(|road| road.length == 8_000).collect();
-    let all = speeds.flat_map(|speed| purposes.clone().map(move |purpose| (speed, purpose)));
-    all.flat_map(|(speed, purpose)| kinds.iter().map(move |road| Road { speed, purpose, ..road.clone() })).collect()
+    let mut random = Random::new(2);
+    kinds.into_iter().cycle().map(move |road| Road {
+        speed: random.within(speeds.clone()) as u8,
+        purpose: random.within(purposes.clone()) as u8,
+        ..road
+    })
 }
 
-/// The listing of a thousand roads of 8,000 m in one call, beside their marking. The machine has two speeds, one twice the
-/// other, and a turn lasts long: so the best of each side is taken.
+/// The listing of a thousand roads of 8,000 m in one call, beside their marking. Both take seconds, and other programs and
+/// the machine's own changes of speed fall on either: so the best of each side is taken. The last row shows the roads whose
+/// marking takes least, where the zones of five bits weigh most; no target is named for these alone.
 fn listings() -> Result<(), Box<dyn error::Error>> {
     println!("{:32} {:>12} {:>14} {:>9}  target", "roads", "vcp list s", "marking s", "ratio");
-    for (name, roads, most) in [
-        ("of all speeds and purposes", long_roads((20..=130).step_by(5), 1..=5), Some(TIMES_MARKING)),
-        ("130 km/h, decision E", long_roads([130].into_iter(), 5..=5), Some(TIMES_MARKING)),
-        ("20 km/h, decision A", long_roads([20].into_iter(), 1..=1), None),
+    for (name, speeds, purposes, most) in [
+        ("any speed and purpose", 20..=130, 1..=5, Some(TIMES_MARKING)),
+        ("130 km/h, decision E", 130..=130, 5..=5, Some(TIMES_MARKING)),
+        ("20 km/h, decision A", 20..=20, 1..=1, None),
     ] {
-        let files = Files::write(&roads)?;
+        let files = Files::write(long_roads(speeds, purposes))?;
+        files.check()?;
         let (mut listing, mut marking) = (f64::MAX, f64::MAX);
         for _ in 0..LISTING_ROUNDS {
             listing = listing.min(files.listing()?);
