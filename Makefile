@@ -43,17 +43,17 @@ install: vcp
 
 # Lists a road file.
 list: given vcp
-	$(run) list "$(ROAD)"
+	$(run) list -- "$(ROAD)"
 
 # Draws a road's profile and zones. A refused file leaves the picture as it was.
 plot: given vcp
 	mkdir -p "$$(dirname "$(PLOT)")"
-	$(run) plot "$(ROAD)" -o "$(PLOT)"
+	$(run) plot -o "$(PLOT)" -- "$(ROAD)"
 	echo "$(PLOT)"
 
 # Prints the text of a road file.
 text: given vcp
-	$(run) text "$(ROAD)"
+	$(run) text -- "$(ROAD)"
 
 given:
 	$(call need,[ -f "$(ROAD)" ],$(ROAD) is not a file: give one with ROAD=file)
@@ -64,7 +64,7 @@ road: ROAD :=
 road: textable vcp
 	text="$(TEXT)"
 	road="$(ROAD)"
-	$(run) road "$$text" -o "$${road:=$${text%.txt}.vcp}"
+	$(run) road -o "$${road:=$${text%.txt}.vcp}" -- "$$text"
 	echo "$$road"
 
 textable:

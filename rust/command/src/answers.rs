@@ -5,6 +5,7 @@ use std::path::Path;
 
 use exports::{Refusal, EYE_HEIGHT, GREATEST_LISTING, OBJECT_HEIGHT};
 use picture::{Curve, Profile};
+use roadtext::Fault;
 
 use crate::arguments::{Given, GRADE, HEIGHT, WHOLE};
 use crate::judgement::Judgement;
@@ -12,6 +13,9 @@ use crate::output::{self, Output};
 use crate::survey::Survey;
 use crate::trouble::{shown, Trouble, ANSWERED};
 use crate::{complain, input, purpose, report, tables};
+
+/// So many faults of a text are said at most.
+const MOST_FAULTS: usize = 20;
 
 /// Answers for each file in turn, and goes on after one that is refused or cannot be read. The status is the greatest.
 fn for_each_file(
@@ -43,7 +47,7 @@ fn for_each_file(
 /// Writes the one answer of a command, into the file that `-o` names or to standard output.
 pub fn write_answer(given: &Given, output: &mut Output, bytes: &[u8]) -> Result<u8, Trouble> {
     match given.output_file() {
-        Some(path) if output::is_same_file(path, given.file()) => {
+        Some(path) if output::is_input(path, given.file()) => {
             return Err(Trouble::failed(format!("{}: it would replace what it is made from", shown(path))));
         }
         Some(path) => output::write_file(path, bytes).map_err(|error| Trouble::with_file(path, &error))?,
@@ -76,13 +80,12 @@ pub fn report(given: &Given, output: &mut Output) -> Result<u8, Trouble> {
 
 /// `vcp check`.
 pub fn check(given: &Given, output: &mut Output) -> Result<u8, Trouble> {
-    let speed = given.needed("--speed", given.number("--speed", WHOLE)?)?;
-    let purpose = given.needed("--purpose", given.word("--purpose")?)?;
-    let purpose = purpose::read(purpose).map_err(|reason| given.wrong(format!("--purpose: {reason}")))?;
+    let speed = given.needed("--speed", |text| WHOLE.read(text))?;
+    let purpose = given.needed("--purpose", purpose::read)?;
     let path = given.file();
     let survey = Survey::read(path, input::open(path)?)?;
     let judgement = Judgement::of_heights(speed, purpose, &survey.heights).map_err(Trouble::refused(path))?;
-    write_answer(given, output, report::report(&shown(path), &judgement, survey.first).as_bytes())
+    output.write(report::report(&shown(path), &judgement, survey.first).as_bytes()).map(|()| ANSWERED)
 }
 
 /// The picture of a road file.
@@ -116,17 +119,24 @@ pub fn plot(given: &Given, output: &mut Output) -> Result<u8, Trouble> {
 /// `vcp road`.
 pub fn road(given: &Given, output: &mut Output) -> Result<u8, Trouble> {
     if given.output_file().is_none() && io::stdout().is_terminal() {
-        return Err(given.wrong("a road file is not for a terminal: name a file with -o".to_string()));
+        return Err(given.wrong("a road file is not for a terminal: name a file with -o"));
     }
     let path = given.file();
-    let file = roadtext::road_file(&input::text(path)?).map_err(|faults| {
-        let lines: Vec<String> = faults.iter().map(|fault| format!("{}:{fault}", shown(path))).collect();
-        match &faults[..] {
-            [fault] if fault.refused => Trouble::Refused(lines.concat()),
-            _ => Trouble::Failed(lines),
-        }
-    })?;
+    let file = roadtext::road_file(&input::text(path)?).map_err(|faults| faulty_text(path, &faults))?;
     write_answer(given, output, &file)
+}
+
+/// The faults of a text, each with its line: the first of many.
+fn faulty_text(path: &Path, faults: &[Fault]) -> Trouble {
+    let name = shown(path);
+    if let [fault @ Fault { refused: true, .. }] = faults {
+        return Trouble::Refused(format!("{name}:{fault}"));
+    }
+    let mut lines: Vec<String> = faults.iter().take(MOST_FAULTS).map(|fault| format!("{name}:{fault}")).collect();
+    if let Some(more) = faults.len().checked_sub(MOST_FAULTS).filter(|&more| more > 0) {
+        lines.push(format!("{name}: {more} more faults"));
+    }
+    Trouble::Failed(lines)
 }
 
 /// `vcp text`.
@@ -142,23 +152,23 @@ fn print(output: &mut Output, number: u32) -> Result<u8, Trouble> {
 
 /// `vcp distance`.
 pub fn distance(given: &Given, output: &mut Output) -> Result<u8, Trouble> {
-    let wrong = |reason: String| given.wrong(reason);
-    let speed = WHOLE.read(given.operand(0)?).map_err(|reason| wrong(format!("SPEED: {reason}")))?;
-    let purpose = purpose::read(given.operand(1)?).map_err(|reason| wrong(format!("PURPOSE: {reason}")))?;
+    let speed = given.operand(0, |text| WHOLE.read(text))?;
+    let purpose = given.operand(1, purpose::read)?;
     print(output, vcp::required_distance(speed, purpose).map_err(Trouble::refused("vcp distance"))?)
 }
 
 /// `vcp crest`.
 pub fn crest(given: &Given, output: &mut Output) -> Result<u8, Trouble> {
-    let drop = given.needed("--drop", given.number("--drop", GRADE)?)?;
-    let eye = given.number("--eye", HEIGHT)?.unwrap_or(EYE_HEIGHT);
-    let object = given.number("--object", HEIGHT)?.unwrap_or(OBJECT_HEIGHT);
+    let drop = given.needed("--drop", |text| GRADE.read(text))?;
+    let eye = given.number("--eye", HEIGHT, EYE_HEIGHT)?;
+    let object = given.number("--object", HEIGHT, OBJECT_HEIGHT)?;
     let refused = Trouble::refused("vcp crest");
-    let sight = match (given.number("--sight", WHOLE)?, given.number("--speed", WHOLE)?) {
+    let whole = |name: &str| given.option(name, |text| WHOLE.read(text));
+    let sight = match (whole("--sight")?, whole("--speed")?) {
         (Some(sight), None) => sight,
         (None, Some(speed)) => vcp::required_distance(speed, purpose::STOPPING).map_err(&refused)?,
-        (None, None) => return Err(given.wrong("--sight or --speed is missing".to_string())),
-        (Some(_), Some(_)) => return Err(given.wrong("--sight and --speed exclude each other".to_string())),
+        (None, None) => return Err(given.wrong("--sight or --speed is missing")),
+        (Some(_), Some(_)) => return Err(given.wrong("--sight and --speed exclude each other")),
     };
     print(output, vcp::crest_length(drop, sight, eye, object).map_err(&refused)?)
 }

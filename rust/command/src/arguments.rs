@@ -1,46 +1,49 @@
 //! What stands behind a command: options and operands.
 
 use std::ffi::{OsStr, OsString};
+use std::os::unix::ffi::OsStrExt;
 use std::path::Path;
+use std::slice;
 
 use roadtext::decimal;
 
 use crate::commands::Command;
 use crate::input;
-use crate::trouble::Trouble;
+use crate::trouble::{shown, Trouble};
 
-/// An option with its value: its name, what the value is called in a usage, and what it means.
+/// An option with its value: its name, what the value is called, what it means, and whether it must be there.
 pub struct Choice {
     pub name: &'static str,
     pub value: &'static str,
     pub meaning: &'static str,
+    pub needed: bool,
 }
 
 /// The options and operands that a command was given.
 pub struct Given {
     command: &'static Command,
     values: Vec<(&'static str, OsString)>,
-    pub operands: Vec<OsString>,
+    operands: Vec<OsString>,
 }
 
-/// The metres or percent that an option counts in: how many decimals its unit has.
+/// The unit that a number is written in, by its decimals.
 #[derive(Clone, Copy)]
 pub struct Unit {
     decimals: usize,
 }
 
-/// Whole numbers.
+/// Whole metres or km/h.
 pub const WHOLE: Unit = Unit { decimals: 0 };
 
-/// Metres of height, in h-units.
+/// Metres of height, counted in h-units.
 pub const HEIGHT: Unit = Unit { decimals: 4 };
 
-/// Percent of grade, in hundredths.
+/// Percent of grade, counted in hundredths.
 pub const GRADE: Unit = Unit { decimals: 2 };
 
 impl Unit {
-    /// Reads a number that is not negative. A larger one than 32 bits hold is handed over as the largest: every function
-    /// that is asked refuses both.
+    /// Reads a number that is not negative. A larger one than 32 bits hold is taken for the largest, which every proved
+    /// function refuses as well.
     pub fn read(self, text: &str) -> Result<u32, String> {
         let number = decimal::read(text, self.decimals)?;
         if number < 0 {
@@ -50,9 +53,22 @@ impl Unit {
     }
 }
 
-/// The parts of an argument that begins an option: its name, and the value behind `=`.
-fn parts(argument: &str) -> (&str, Option<&str>) {
-    argument.split_once('=').map_or((argument, None), |(name, value)| (name, Some(value)))
+/// An option's name, and the value that stands in the same argument: behind `=`, or right behind one letter.
+fn parts(argument: &OsStr) -> (&OsStr, Option<&OsStr>) {
+    let bytes = argument.as_bytes();
+    let (name, value) = match bytes.strip_prefix(b"--") {
+        Some(_) => match bytes.iter().position(|&byte| byte == b'=') {
+            Some(end) => (&bytes[..end], Some(&bytes[end + 1..])),
+            None => (bytes, None),
+        },
+        None => (&bytes[..2], Some(&bytes[2..]).filter(|value| !value.is_empty())),
+    };
+    (OsStr::from_bytes(name), value.map(OsStr::from_bytes))
+}
+
+/// Whether an argument is an option. A dash alone is standard input.
+fn is_option(argument: &OsStr) -> bool {
+    argument.as_bytes().starts_with(b"-") && argument != "-"
 }
 
 impl Given {
@@ -61,32 +77,32 @@ impl Given {
         let mut given = Given { command, values: Vec::new(), operands: Vec::new() };
         let mut arguments = arguments.iter();
         while let Some(argument) = arguments.next() {
-            match argument.to_str() {
-                Some("--") => given.operands.extend(arguments.by_ref().cloned()),
-                Some(text) if text.starts_with('-') && text != "-" => {
-                    let (name, value) = parts(text);
-                    let value = match value {
-                        Some(value) => Some(OsStr::new(value)),
-                        None => arguments.next().map(OsString::as_os_str),
-                    };
-                    given.take(name, value)?;
-                }
-                _ => given.operands.push(argument.clone()),
+            if argument == "--" {
+                given.operands.extend(arguments.by_ref().cloned());
+            } else if is_option(argument) {
+                given.take(argument, &mut arguments)?;
+            } else {
+                given.operands.push(argument.clone());
             }
         }
         given.count_operands()?;
+        given.count_options()?;
         Ok(given)
     }
 
-    /// Takes an option with its value.
-    fn take(&mut self, name: &str, value: Option<&OsStr>) -> Result<(), Trouble> {
-        let Some(choice) = self.command.options.iter().find(|choice| choice.name == name) else {
-            return Err(self.wrong(format!("there is no option {name}")));
+    /// Takes an option with its value, which may be the next argument.
+    fn take(&mut self, argument: &OsStr, others: &mut slice::Iter<OsString>) -> Result<(), Trouble> {
+        let (name, value) = parts(argument);
+        let Some(choice) = self.command.options.iter().find(|choice| name == choice.name) else {
+            return Err(self.wrong(format!("there is no option {}", shown(Path::new(argument)))));
         };
-        if self.value(choice.name).is_some() {
-            return Err(self.wrong(format!("{name} stands twice")));
+        if self.is_there(choice.name) {
+            return Err(self.wrong(format!("{} stands twice", choice.name)));
         }
-        let Some(value) = value else { return Err(self.wrong(format!("{name} needs {}", choice.value))) };
+        let next = || others.next().map(OsString::as_os_str).filter(|next| !next.as_bytes().starts_with(b"--"));
+        let Some(value) = value.or_else(next) else {
+            return Err(self.wrong(format!("{} needs {}", choice.name, choice.value)));
+        };
         self.values.push((choice.name, value.to_os_string()));
         Ok(())
     }
@@ -102,25 +118,45 @@ impl Given {
         }
     }
 
+    fn count_options(&self) -> Result<(), Trouble> {
+        let mut missing = self.command.options.iter().filter(|choice| choice.needed && !self.is_there(choice.name));
+        missing.next().map_or(Ok(()), |choice| Err(self.wrong(format!("{} is missing", choice.name))))
+    }
+
     fn value(&self, name: &str) -> Option<&OsStr> {
         self.values.iter().find(|(own, _)| *own == name).map(|(_, value)| value.as_os_str())
     }
 
-    /// The value of an option in words.
-    pub fn word(&self, name: &str) -> Result<Option<&str>, Trouble> {
-        let Some(value) = self.value(name) else { return Ok(None) };
-        value.to_str().map(Some).ok_or_else(|| self.wrong(format!("{name}: {value:?} is no text")))
+    /// Whether an option is there.
+    pub fn is_there(&self, name: &str) -> bool {
+        self.value(name).is_some()
     }
 
-    /// The value of an option as a number in a unit.
-    pub fn number(&self, name: &str, unit: Unit) -> Result<Option<u32>, Trouble> {
-        let Some(text) = self.word(name)? else { return Ok(None) };
-        unit.read(text).map(Some).map_err(|reason| self.wrong(format!("{name}: {reason}")))
+    /// The value of an option as it is read by a function.
+    pub fn option<T>(&self, name: &str, read: impl Fn(&str) -> Result<T, String>) -> Result<Option<T>, Trouble> {
+        let read_value = |value: &OsStr| {
+            let text = value.to_str().ok_or_else(|| format!("{value:?} is no text"))?;
+            read(text)
+        };
+        let value = self.value(name).map(read_value).transpose();
+        value.map_err(|reason| self.wrong(format!("{name}: {reason}")))
     }
 
-    /// The value of an option that must be there.
-    pub fn needed<T>(&self, name: &str, value: Option<T>) -> Result<T, Trouble> {
-        value.ok_or_else(|| self.wrong(format!("{name} is missing")))
+    /// The value of an option as a number in a unit; where it is not given, another number.
+    pub fn number(&self, name: &str, unit: Unit, other: u32) -> Result<u32, Trouble> {
+        Ok(self.option(name, |text| unit.read(text))?.unwrap_or(other))
+    }
+
+    /// The value of an option that must be there, as it is read by a function.
+    pub fn needed<T>(&self, name: &str, read: impl Fn(&str) -> Result<T, String>) -> Result<T, Trouble> {
+        self.option(name, read)?.ok_or_else(|| self.wrong(format!("{name} is missing")))
+    }
+
+    /// The operand at a place, as it is read by a function.
+    pub fn operand<T>(&self, place: usize, read: impl Fn(&str) -> Result<T, String>) -> Result<T, Trouble> {
+        let operand = &self.operands[place];
+        let text = operand.to_str().ok_or_else(|| format!("{operand:?} is no text"));
+        text.and_then(read).map_err(|reason| self.wrong(format!("{}: {reason}", self.command.operands.names[place])))
     }
 
     /// The file that the answer is written to; none where it is standard output.
@@ -138,15 +174,9 @@ impl Given {
         Path::new(&self.operands[0])
     }
 
-    /// An operand in words.
-    pub fn operand(&self, place: usize) -> Result<&str, Trouble> {
-        let operand = &self.operands[place];
-        operand.to_str().ok_or_else(|| self.wrong(format!("{operand:?} is no text")))
-    }
-
     /// The command is used wrongly.
-    pub fn wrong(&self, reason: String) -> Trouble {
-        let Command { name, .. } = self.command;
-        Trouble::Failed(vec![format!("vcp {name}: {reason}"), format!("usage: {}", self.command.usage())])
+    pub fn wrong(&self, reason: impl AsRef<str>) -> Trouble {
+        let line = format!("vcp {}: {}", self.command.name, reason.as_ref());
+        Trouble::Failed(vec![line, format!("usage: {}", self.command.usage())])
     }
 }

@@ -16,8 +16,6 @@ pub struct Operands {
 /// A command.
 pub struct Command {
     pub name: &'static str,
-    /// What stands behind its name.
-    pub call: &'static str,
     /// What it prints, in one line.
     pub prints: &'static str,
     /// The rest of its help.
@@ -28,24 +26,44 @@ pub struct Command {
 }
 
 impl Command {
-    pub fn usage(&self) -> String {
-        format!("vcp {} {}", self.name, self.call)
+    /// Its name with its operands.
+    pub fn call(&self) -> String {
+        let more = if self.operands.more { "..." } else { "" };
+        format!("{} {}{more}", self.name, self.operands.names.join(" ")).trim_end().to_string()
     }
+
+    /// How it is called, with its options.
+    pub fn usage(&self) -> String {
+        let options = self.options.iter().map(|Choice { name, value, needed, .. }| match needed {
+            true => format!(" {name} {value}"),
+            false => format!(" [{name} {value}]"),
+        });
+        format!("vcp {}{}", self.call(), options.collect::<String>())
+    }
+}
+
+/// An option that may be left out.
+const fn choice(name: &'static str, value: &'static str, meaning: &'static str) -> Choice {
+    Choice { name, value, meaning, needed: false }
+}
+
+/// An option that must be there.
+const fn needed(name: &'static str, value: &'static str, meaning: &'static str) -> Choice {
+    Choice { name, value, meaning, needed: true }
 }
 
 const ONE_FILE: Operands = Operands { names: &["FILE"], more: false };
 const FILES: Operands = Operands { names: &["FILE"], more: true };
 
-const OUTPUT: Choice = Choice { name: "-o", value: "OUT", meaning: "write it into this file, whole or not at all" };
-const FROM: Choice = Choice { name: "--from", value: "M", meaning: "the first station (0)" };
-const TO: Choice = Choice { name: "--to", value: "M", meaning: "the last station (the road's end)" };
-const EYE: Choice = Choice { name: "--eye", value: "M", meaning: "height of the eye above the road, in m (1.08)" };
-const OBJECT: Choice = Choice { name: "--object", value: "M", meaning: "height of the object, in m (0.60)" };
+const OUTPUT: Choice = choice("-o", "OUT", "the file to write, whole or not at all (-)");
+const FROM: Choice = choice("--from", "M", "the first station (0)");
+const TO: Choice = choice("--to", "M", "the last station (the road's end)");
+const EYE: Choice = choice("--eye", "M", "height of the eye above the road, in m (1.08)");
+const OBJECT: Choice = choice("--object", "M", "height of the object, in m (0.60)");
 
 pub const COMMANDS: [Command; 10] = [
     Command {
         name: "list",
-        call: "FILE...",
         prints: "the listing of road files, for programs",
         details: "\
 The first line has the word VCP, the version, the speed in km/h, the stopping
@@ -63,65 +81,53 @@ The listing of a refused file is one line, 'refused' and the number.",
     },
     Command {
         name: "report",
-        call: "FILE...",
         prints: "the same in words, for people",
         details: "\
-For each road: the distances that are needed; on how much of the road sight is
-judged, lacking and not judged; every zone in words, with its length. A station
-stands for the metre around it, so a zone of one station is 1 m long. The share
-is of what is judged. A station is not judged where the road ends before the
-distance does. In the reduced decision zone stopping sight is there and decision
-sight is not.",
+For each road: the distances that are needed; at how many stations sight is
+judged, lacking and not judged; every zone in words, with its length. There is a
+station each metre, and it stands for the metre around it: a zone of one station
+is 1 m long. The share is of the judged stations. A station is not judged where
+the road ends before the distance does. In the reduced decision zone stopping
+sight is there and decision sight is not.",
         operands: FILES,
         options: &[],
         run: answers::report,
     },
     Command {
         name: "heights",
-        call: "FILE [--from M] [--to M] [--every M] [-o OUT]",
         prints: "the height at each station, as CSV",
         details: "Stations and heights are in m, the heights with four decimals.",
         operands: ONE_FILE,
-        options: &[FROM, TO, Choice { name: "--every", value: "M", meaning: "only every so many metres (1)" }, OUTPUT],
+        options: &[FROM, TO, choice("--every", "M", "only every so many metres (1)"), OUTPUT],
         run: tables::heights,
     },
     Command {
         name: "sight",
-        call: "FILE [--eye M] [--object M] [--farthest M] [--from M] [--to M] [-o OUT]",
         prints: "the available sight from each station, as CSV",
         details: "\
 Stations and sight are in m, in the direction of rising stations. Sight ends
 where the object is hidden first, at the farthest distance, or with the road.",
         operands: ONE_FILE,
-        options: &[
-            EYE,
-            OBJECT,
-            Choice { name: "--farthest", value: "M", meaning: "how far is looked at most (8000)" },
-            FROM,
-            TO,
-            OUTPUT,
-        ],
+        options: &[EYE, OBJECT, choice("--farthest", "M", "how far is looked at most (8000)"), FROM, TO, OUTPUT],
         run: tables::sight,
     },
     Command {
         name: "check",
-        call: "HEIGHTS --speed KMH --purpose PURPOSE",
         prints: "the report for heights that were surveyed",
         details: "\
 HEIGHTS is CSV as 'vcp heights' writes it, with or without the header: on each
 line a station and its height in m, with at most four decimals, one line a
-metre. The first station may be any. A gap, a station twice or a line that
-cannot be read is an error with its line.",
+metre, at most 8001 of them. The first station may be any. A gap, a station
+twice or a line that cannot be read is an error with its line.",
         operands: Operands { names: &["HEIGHTS"], more: false },
         options: &[
-            Choice { name: "--speed", value: "KMH", meaning: "the speed in km/h" },
-            Choice { name: "--purpose", value: "PURPOSE", meaning: "the decision, A to E or 1 to 5" },
+            needed("--speed", "KMH", "the speed in km/h"),
+            needed("--purpose", "PURPOSE", "the decision, A to E or 1 to 5"),
         ],
         run: answers::check,
     },
     Command {
         name: "plot",
-        call: "FILE [-o OUT]",
         prints: "a picture of the profile and its zones, as SVG",
         details: "The heights are stretched; the picture says how many times.",
         operands: ONE_FILE,
@@ -130,17 +136,20 @@ cannot be read is an error with its line.",
     },
     Command {
         name: "road",
-        call: "TEXT [-o OUT]",
         prints: "a road file from a readable text",
         details: "\
-Each line of the text has one item; what follows a # is a comment. A curve has
-its PVI, its length and its grade out.
+Each line of the text has one item; what follows a # is a comment.
   speed 90 km/h
   purpose 1
   length 1500 m
   start height 102.5 m
   first grade 4.00 %
   curve 480 m, 60 m, -2.00 %
+The first five stand once each, in any order. Curves stand in the road's order,
+each with its PVI, its length and its grade out; there are at most 32. A space
+parts a number from its unit. The start height may have four decimals and a
+grade two; the other numbers are whole. Purposes 1 to 5 are the decisions A to
+E. The text has at most 1 MiB.
 What cannot be read, and what is refused of the road, is said with its line.",
         operands: Operands { names: &["TEXT"], more: false },
         options: &[OUTPUT],
@@ -148,7 +157,6 @@ What cannot be read, and what is refused of the road, is said with its line.",
     },
     Command {
         name: "text",
-        call: "FILE [-o OUT]",
         prints: "the text of a road file",
         details: "'vcp road' turns it into the same file again.",
         operands: ONE_FILE,
@@ -157,7 +165,6 @@ What cannot be read, and what is refused of the road, is said with its line.",
     },
     Command {
         name: "distance",
-        call: "SPEED PURPOSE",
         prints: "the required distance in m",
         details: "\
 SPEED is in km/h. PURPOSE is a number or a name: 0 or stopping; 1 to 5, A to E
@@ -168,16 +175,16 @@ or decision-A to decision-E.",
     },
     Command {
         name: "crest",
-        call: "--drop PERCENT (--sight M | --speed KMH) [--eye M] [--object M]",
         prints: "the least length of a crest in m",
         details: "\
-The least even length over which the object is seen from the sight distance.
-With --speed that is the stopping distance of the speed.",
+The least even length over which the object is seen from the sight distance. One
+of --sight and --speed is given: with --speed the sight distance is the stopping
+distance of that speed.",
         operands: Operands { names: &[], more: false },
         options: &[
-            Choice { name: "--drop", value: "PERCENT", meaning: "how much the grade falls, as 6.00" },
-            Choice { name: "--sight", value: "M", meaning: "the sight distance" },
-            Choice { name: "--speed", value: "KMH", meaning: "the speed whose stopping distance is taken" },
+            needed("--drop", "PERCENT", "how much the grade falls, as 6.00"),
+            choice("--sight", "M", "the sight distance"),
+            choice("--speed", "KMH", "the speed whose stopping distance is taken"),
             EYE,
             OBJECT,
         ],

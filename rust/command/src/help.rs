@@ -9,8 +9,8 @@ pub const VERSION: &str = concat!("vcp ", env!("CARGO_PKG_VERSION"), "\n");
 
 /// Whether help is asked for among the arguments of a command.
 pub fn is_asked(arguments: &[OsString]) -> bool {
-    let options = arguments.iter().take_while(|argument| *argument != "--");
-    options.into_iter().any(|argument| argument == "--help" || argument == "-h")
+    let mut options = arguments.iter().take_while(|argument| *argument != "--");
+    options.any(|argument| argument == "--help" || argument == "-h")
 }
 
 /// Lines of two columns.
@@ -20,11 +20,7 @@ fn rows(rows: impl Iterator<Item = (String, &'static str)>) -> String {
 
 /// The help for all.
 pub fn overview() -> String {
-    let commands = rows(COMMANDS.iter().map(|command| {
-        let operands = command.operands.names.join(" ");
-        let more = if command.operands.more { "..." } else { "" };
-        (format!("{} {operands}{more}", command.name), command.prints)
-    }));
+    let commands = rows(COMMANDS.iter().map(|command| (command.call(), command.prints)));
     format!(
         "\
 vcp: where a driver on a two-lane country road cannot see far enough to stop, or
@@ -35,9 +31,10 @@ usage: vcp COMMAND ...
        vcp --version
 
 {commands}
-FILE is a road file; 'vcp road' makes one. The name - is standard input, in the
-place of any file that is read. Stations, lengths and heights are in metres,
-grades in percent, speeds in km/h.
+FILE is a road file; 'vcp road' makes one. The name - is standard input, or
+standard output behind -o. Stations, lengths and heights are in metres, grades
+in percent, speeds in km/h. An option's value may stand behind it or behind '=';
+what follows -- is no option.
 
 Every answer is that of a proved function. A refusal is one line on standard
 error: the file, 'refused', the number, the reason. Of several files the others

@@ -8,7 +8,7 @@ use exports::ENOUGH_BYTES;
 
 use crate::trouble::{shown, Trouble};
 
-/// No text of a road is longer.
+/// The longest text of a road that is read.
 const LONGEST_TEXT: u64 = 1 << 20;
 
 /// Whether a name stands for standard input.
@@ -41,7 +41,7 @@ pub fn road_file(path: &Path) -> Result<Vec<u8>, Trouble> {
 pub fn text(path: &Path) -> Result<String, Trouble> {
     let bytes = first_bytes(path, LONGEST_TEXT + 1)?;
     if bytes.len() as u64 > LONGEST_TEXT {
-        return Err(Trouble::failed(format!("{}: longer than any road's text ({LONGEST_TEXT} bytes)", shown(path))));
+        return Err(Trouble::failed(format!("{}: a text of more than {LONGEST_TEXT} bytes is not read", shown(path))));
     }
     Ok(String::from_utf8_lossy(&bytes).into_owned())
 }

@@ -1,6 +1,6 @@
 //! What the proved functions say of a road file, or of heights.
 
-use exports::{Refusal, GREATEST_LISTING, MOST_ENDS};
+use exports::{Refusal, GREATEST_LIST, GREATEST_LISTING, MOST_ENDS};
 
 use crate::purpose;
 
@@ -24,7 +24,8 @@ pub struct Judgement {
 impl Judgement {
     /// That of a road file, from its listing.
     pub fn of_road(file: &[u8]) -> Result<Judgement, Refusal> {
-        let [_, purpose, length, ..] = roadtext::road_numbers(file)?.head;
+        let [_, purpose, ..] = roadtext::road_numbers(file)?.head;
+        let stations = exports::file_heights(file, &mut [0; GREATEST_LIST])?;
         let mut text = vec![0; GREATEST_LISTING];
         let bytes = exports::list_road_file(file, &mut text)?;
         let mut lines = text[..bytes as usize].split(|&byte| byte == b'\n');
@@ -35,7 +36,7 @@ impl Judgement {
                 zones[bit].push(numbers(line).map(|station| station as u16));
             }
         }
-        Ok(Judgement { speed, purpose: purpose as u32, stopping, decision, stations: length as u32 + 1, zones })
+        Ok(Judgement { speed, purpose: purpose as u32, stopping, decision, stations, zones })
     }
 
     /// That of heights, one a metre.

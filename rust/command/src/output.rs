@@ -1,10 +1,11 @@
 //! What a command writes: to standard output, or to a file that is whole or not there.
 
 use std::fs::{self, File, Metadata};
-use std::io::{self, BufWriter, StdoutLock, Write};
-use std::path::Path;
+use std::io::{self, BufWriter, ErrorKind, StdoutLock, Write};
+use std::path::{Path, PathBuf};
 use std::process;
 
+use crate::input;
 use crate::trouble::Trouble;
 
 /// Standard output, written in large pieces.
@@ -38,9 +39,11 @@ impl Output {
     }
 }
 
-/// Whether two names stand for the same file.
-pub fn is_same_file(one: &Path, other: &Path) -> bool {
-    fs::canonicalize(one).is_ok_and(|one| fs::canonicalize(other).is_ok_and(|other| one == other))
+/// Whether the output, where it is a plain file, is the input itself.
+pub fn is_input(output: &Path, input: &Path) -> bool {
+    let input = if input::is_standard(input) { Path::new("/dev/stdin") } else { input };
+    let same = |output: PathBuf| output.is_file() && fs::canonicalize(input).is_ok_and(|input| input == output);
+    fs::canonicalize(output).is_ok_and(same)
 }
 
 /// Writes a file. What is no plain file, as a device or a named pipe, takes the bytes as they come.
@@ -52,15 +55,31 @@ pub fn write_file(path: &Path, bytes: &[u8]) -> io::Result<()> {
             write_whole(&fs::canonicalize(path)?, bytes, Some(&there))
         }
         Ok(_) => File::options().write(true).open(path)?.write_all(bytes),
-        Err(_) => write_whole(path, bytes, None),
+        Err(error) if error.kind() != ErrorKind::NotFound => Err(error),
+        // A link may lead to where no file is yet.
+        Err(_) => match fs::read_link(path) {
+            Ok(target) => write_file(&path.with_file_name("").join(target), bytes),
+            Err(_) => write_whole(path, bytes, None),
+        },
     }
 }
 
-/// Writes a plain file whole or not at all: under a name of its own beside its place, and then renamed. A file that it
-/// replaces hands on its permissions.
+/// A new file in the same folder, under a name that no other has.
+fn new_beside(path: &Path) -> io::Result<(PathBuf, File)> {
+    for number in 0_u32.. {
+        let beside = path.with_file_name(format!(".vcp-{}-{number}", process::id()));
+        match File::create_new(&beside) {
+            Err(error) if error.kind() == ErrorKind::AlreadyExists => {}
+            made => return made.map(|file| (beside, file)),
+        }
+    }
+    Err(ErrorKind::AlreadyExists.into())
+}
+
+/// Writes a plain file whole or not at all: under another name beside its place, and then renamed. A file that it replaces
+/// hands on its permissions; its owner, and other names that it has, it does not.
 fn write_whole(path: &Path, bytes: &[u8], before: Option<&Metadata>) -> io::Result<()> {
-    let beside = path.with_file_name(format!(".vcp-{}", process::id()));
-    let mut file = File::create_new(&beside)?;
+    let (beside, mut file) = new_beside(path)?;
     let written = before
         .map_or(Ok(()), |before| file.set_permissions(before.permissions()))
         .and_then(|()| file.write_all(bytes))

@@ -11,7 +11,7 @@ const DECISION: [usize; 2] = [1, 4];
 
 type Row = Vec<String>;
 
-/// Rows as lines: the first column to the left, the others to the right, two spaces between.
+/// Rows as lines: the first column to the left, the others to the right, three spaces between.
 fn lined_up(rows: &[Row]) -> String {
     let columns = rows.iter().map(Vec::len).max().unwrap_or(0);
     let width = |column: usize| rows.iter().filter_map(|row| row.get(column)).map(String::len).max().unwrap_or(0);
@@ -46,13 +46,13 @@ fn share(part: u32, all: u32) -> String {
     }
 }
 
-/// The row of a distance: on how much of the road it is judged, lacking and not judged.
+/// The row of a distance: at how many stations it is judged, lacking and not judged.
 fn sum(judgement: &Judgement, name: &str, distance: u32, [lacking, not_judged]: [usize; 2]) -> Row {
     let [lacking, not_judged] = [lacking, not_judged].map(|zone| stations(judgement, zone));
     let judged = judgement.stations - not_judged;
-    let metres = |number: u32| format!("{number} m");
-    let share = share(lacking, judged);
-    vec![name.to_string(), metres(distance), metres(judged), metres(lacking), share, metres(not_judged)]
+    let [judged_word, lacking_word, not_judged_word] =
+        [judged, lacking, not_judged].map(|stations| stations.to_string());
+    vec![name.to_string(), format!("{distance} m"), judged_word, lacking_word, share(lacking, judged), not_judged_word]
 }
 
 /// The rows of a letter's zones.
@@ -70,18 +70,18 @@ fn zone_rows(judgement: &Judgement, zone: usize, first_station: u32) -> Vec<Row>
 
 /// The report of what is judged under this name, from its first station on.
 pub fn report(name: &str, judgement: &Judgement, first_station: u32) -> String {
-    let last_station = first_station + (judgement.stations - 1);
-    let Judgement { speed, purpose, stopping, decision, .. } = *judgement;
+    let Judgement { speed, purpose, stopping, decision, stations, .. } = *judgement;
+    let last_station = first_station + (stations - 1);
     let sums = [
-        row(["sight", "needed", "judged", "lacking", "share", "not judged"]),
-        sum(judgement, "stopping", stopping, STOPPING),
-        sum(judgement, "decision", decision, DECISION),
+        row([&format!("of {stations} stations"), "needed", "judged", "lacking", "share", "not judged"]),
+        sum(judgement, "stopping sight", stopping, STOPPING),
+        sum(judgement, "decision sight", decision, DECISION),
     ];
     let mut zones = vec![row(["zone", "from", "to", "length"])];
     zones.extend((0..MEANINGS.len()).flat_map(|zone| zone_rows(judgement, zone, first_station)));
     let purpose = purpose::name(purpose);
     format!(
-        "{name}: stations {first_station} to {last_station}, {speed} km/h, {purpose}\n\n{}\n{}",
+        "{name}: {speed} km/h, {purpose}, from station {first_station} to {last_station} (rising)\n\n{}\n{}",
         lined_up(&sums),
         lined_up(&zones)
     )

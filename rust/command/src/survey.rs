@@ -4,16 +4,14 @@ use std::io::{BufRead, BufReader, Read};
 use std::path::Path;
 
 use exports::GREATEST_LIST;
-use roadtext::decimal;
+use roadtext::{decimal, BYTE_ORDER_MARK};
 
 use crate::tables::HEIGHTS_HEADER;
 use crate::trouble::{shown, Trouble};
 
-/// No line of a station and a height is longer.
+/// The longest line that is read, and the most lines: there is room for each station of the longest list, and for blank ones.
 const LONGEST_LINE: u64 = 1_000;
-
-/// What some programs put at the front of a text.
-const BYTE_ORDER_MARK: &str = "\u{feff}";
+const MOST_LINES: usize = 10 * GREATEST_LIST;
 
 /// Heights in h-units, and the station of the first.
 pub struct Survey {
@@ -70,9 +68,10 @@ impl Survey {
                 break;
             }
             let line = String::from_utf8_lossy(&bytes);
-            let line = if number == 1 { line.trim_start_matches(BYTE_ORDER_MARK) } else { &line };
+            let line = line.strip_prefix(BYTE_ORDER_MARK).filter(|_| number == 1).unwrap_or(&line);
             let taken = match length as u64 {
                 LONGEST_LINE => Err(format!("the line has {LONGEST_LINE} bytes or more")),
+                _ if number > MOST_LINES => Err(format!("there are more than {MOST_LINES} lines")),
                 _ => survey.take(number, line),
             };
             taken.map_err(|reason| Trouble::failed(format!("{}:{number}: {reason}", shown(path))))?;

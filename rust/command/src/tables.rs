@@ -26,24 +26,40 @@ pub fn heights_of(file: &[u8]) -> Result<Vec<i32>, exports::Refusal> {
     Ok(heights)
 }
 
-/// The stations that are asked for, of a road with so many.
-fn stations(given: &Given, many: usize) -> Result<StepBy<RangeInclusive<usize>>, Trouble> {
-    let last = many - 1;
-    let from = given.number("--from", WHOLE)?.map_or(0, |from| from as usize);
-    let to = given.number("--to", WHOLE)?.map_or(last, |to| to as usize);
-    let every = given.number("--every", WHOLE)?.map_or(1, |every| every as usize);
-    for (name, station) in [("--from", from), ("--to", to)] {
-        if station > last {
-            return Err(given.wrong(format!("{name} {station}: the last station is {last}")));
+/// The stations that are asked for: from one to another in steps.
+struct Stretch {
+    from: u32,
+    to: u32,
+    every: usize,
+}
+
+impl Stretch {
+    /// Reads it from the options. What they leave open is all of the road.
+    fn read(given: &Given) -> Result<Stretch, Trouble> {
+        let from = given.number("--from", WHOLE, 0)?;
+        let to = given.number("--to", WHOLE, u32::MAX)?;
+        let every = given.number("--every", WHOLE, 1)? as usize;
+        if to < from {
+            return Err(given.wrong("--from is beyond --to"));
         }
+        if every == 0 {
+            return Err(given.wrong("--every 0 is no step"));
+        }
+        Ok(Stretch { from, to, every })
     }
-    if to < from {
-        return Err(given.wrong(format!("--from {from} is beyond --to {to}")));
+
+    /// Its stations, of a road with a last one.
+    fn stations(&self, given: &Given, last: usize) -> Result<StepBy<RangeInclusive<usize>>, Trouble> {
+        let Stretch { from, to, every } = *self;
+        let beyond = |name: &str| given.wrong(format!("{name}: the last station is {last}"));
+        if from as usize > last {
+            return Err(beyond("--from"));
+        }
+        if to as usize > last && given.is_there("--to") {
+            return Err(beyond("--to"));
+        }
+        Ok((from as usize..=last.min(to as usize)).step_by(every))
     }
-    if every == 0 {
-        return Err(given.wrong("--every 0 is no step".to_string()));
-    }
-    Ok((from..=to).step_by(every))
 }
 
 /// Writes a header and a row for each station.
@@ -63,21 +79,23 @@ fn write_table(
 
 /// `vcp heights`.
 pub fn heights(given: &Given, output: &mut Output) -> Result<u8, Trouble> {
+    let stretch = Stretch::read(given)?;
     let heights = heights_of(&input::road_file(given.file())?).map_err(Trouble::refused(given.file()))?;
-    let stations = stations(given, heights.len())?;
+    let stations = stretch.stations(given, heights.len() - 1)?;
     write_table(given, output, HEIGHTS_HEADER, stations, |station| decimal::write(heights[station].into(), 4, 4))
 }
 
 /// `vcp sight`.
 pub fn sight(given: &Given, output: &mut Output) -> Result<u8, Trouble> {
     let look = Look {
-        eye: given.number("--eye", HEIGHT)?.unwrap_or(EYE_HEIGHT),
-        object: given.number("--object", HEIGHT)?.unwrap_or(OBJECT_HEIGHT),
-        farthest: given.number("--farthest", WHOLE)?.unwrap_or(GREATEST_FARTHEST),
+        eye: given.number("--eye", HEIGHT, EYE_HEIGHT)?,
+        object: given.number("--object", HEIGHT, OBJECT_HEIGHT)?,
+        farthest: given.number("--farthest", WHOLE, GREATEST_FARTHEST)?,
     };
+    let stretch = Stretch::read(given)?;
     let refused = Trouble::refused(given.file());
     let heights = heights_of(&input::road_file(given.file())?).map_err(&refused)?;
-    let stations = stations(given, heights.len())?;
+    let stations = stretch.stations(given, heights.len() - 1)?;
     let mut sights = vec![0; heights.len()];
     exports::sight_profile(&heights, look, &mut sights).map_err(&refused)?;
     write_table(given, output, SIGHTS_HEADER, stations, |station| sights[station].to_string())

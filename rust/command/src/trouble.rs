@@ -14,7 +14,7 @@ pub enum Trouble {
     Failed(Vec<String>),
     /// Standard output fails.
     Unwritten(String),
-    /// Nobody reads standard output any more.
+    /// Nobody reads the output any more.
     Unread,
 }
 
@@ -45,9 +45,12 @@ impl Trouble {
         Trouble::Failed(vec![line.into()])
     }
 
-    /// What fails with a file.
+    /// What fails with a file. Nobody reads a named pipe that is closed.
     pub fn with_file(path: &Path, error: &io::Error) -> Trouble {
-        Trouble::failed(format!("{}: {}", shown(path), words(error)))
+        match error.kind() {
+            io::ErrorKind::BrokenPipe => Trouble::Unread,
+            _ => Trouble::failed(format!("{}: {}", shown(path), words(error))),
+        }
     }
 
     /// What fails with standard output.

@@ -4,11 +4,12 @@
 mod common;
 
 use std::fs::{self, File};
-use std::io::Write;
+use std::io::{Read, Write};
 use std::os::fd::OwnedFd;
 use std::os::unix::net::UnixStream;
 use std::path::{Path, PathBuf};
-use std::process::Stdio;
+use std::process::{Command, Stdio};
+use std::thread;
 
 use common::{command, expect_error, folder, root, run, run_with, Ended};
 use sight_tests::roads::EXAMPLE;
@@ -71,7 +72,7 @@ fn shipped_roads() {
         if folder.join(file).is_file() {
             let input = fs::read(folder.join(file)).expect("the input is there");
             let (from_standard, its_bytes) = run_with(&folder, &on(others, "-"), &input);
-            let named = ended.output.replacen(&format!("{file}: stations"), "-: stations", 1);
+            let named = ended.output.replacen(&format!("{file}: 90 km/h"), "-: 90 km/h", 1);
             assert_eq!((from_standard.output, from_standard.status), (named, 0), "{arguments:?}");
             assert!(bytes == its_bytes || ["report", "check"].contains(&arguments[0]), "{arguments:?}");
         }
@@ -140,7 +141,7 @@ fn large_files() {
     }
     expect_error(&folder, &on(CHECK, "zeros"), 2, "zeros:1: the line has 1000 bytes or more\n");
     expect_refused(&folder, CHECK, "heights", 19, "the list of heights or marks is empty or longer than 8,001");
-    expect_error(&folder, &on(ROAD, "zeros"), 2, "zeros: longer than any road's text (1048576 bytes)\n");
+    expect_error(&folder, &on(ROAD, "zeros"), 2, "zeros: a text of more than 1048576 bytes is not read\n");
 }
 
 /// Runs the command with this in the place of standard output, and answers its status and its errors.
@@ -155,13 +156,15 @@ fn into(folder: &Path, arguments: &[&str], output: impl Into<Stdio>) -> (Option<
 #[test]
 fn full_disk() {
     let folder = with_inputs("habits_full");
-    let mut all = answered();
-    all.extend([vec!["--help"], vec!["--version"], vec!["list", "--help"], vec!["list", "none", "three-crests.vcp"]]);
-    for arguments in all {
-        let full = File::options().write(true).open("/dev/full").expect("the system has a full device");
-        let (status, errors) = into(&folder, &arguments, full);
-        assert_eq!(status, Some(2), "{arguments:?}");
-        assert_eq!(errors.lines().last(), Some("standard output: No space left on device"), "{arguments:?}");
+    let full = || File::options().write(true).open("/dev/full").expect("the system has a full device");
+    let line = "standard output: No space left on device\n";
+    let of_itself = [vec!["--help"], vec!["--version"], vec!["list", "--help"]];
+    for arguments in answered().into_iter().chain(of_itself) {
+        assert_eq!(into(&folder, &arguments, full()), (Some(2), line.to_string()), "{arguments:?}");
+    }
+    let missing = "none: No such file or directory\n";
+    for arguments in [["list", "none", "three-crests.vcp"], ["list", "three-crests.vcp", "none"]] {
+        assert_eq!(into(&folder, &arguments, full()), (Some(2), format!("{missing}{line}")), "{arguments:?}");
     }
 }
 
@@ -176,13 +179,53 @@ fn closed_pipe() {
     for arguments in answered().into_iter().chain([vec!["--help"]]) {
         assert_eq!(into(&folder, &arguments, closed()), (Some(0), String::new()), "{arguments:?}");
     }
-    // Much more than a pipe holds, and nobody reads it.
-    let many = [vec!["list"], vec!["three-crests.vcp"; 2_000]].concat();
+    // Much more than is written at once, and nobody reads it: what stands behind it is not looked at any more.
+    let many = [vec!["list"], vec!["three-crests.vcp"; 2_000], vec!["slow.vcp"]].concat();
     assert_eq!(into(&folder, &many, closed()), (Some(0), String::new()));
     let refused = "slow.vcp: refused 6: the speed is not 20 to 130 km/h\n".to_string();
     for arguments in [["list", "slow.vcp", "three-crests.vcp"], ["list", "three-crests.vcp", "slow.vcp"]] {
         assert_eq!(into(&folder, &arguments, closed()), (Some(1), refused.clone()), "{arguments:?}");
     }
+}
+
+/// A named pipe that is closed ends it as quietly.
+#[test]
+fn closed_named_pipe() {
+    let folder = with_inputs("habits_named_pipe");
+    let made = Command::new("mkfifo").arg(folder.join("pipe")).status().expect("the system has mkfifo");
+    assert!(made.success());
+    let pipe = folder.join("pipe");
+    let reader = thread::spawn(move || File::open(pipe).and_then(|mut pipe| pipe.read_exact(&mut [0; 5])));
+    let ended = into(&folder, &["plot", "three-crests.vcp", "-o", "pipe"], Stdio::null());
+    reader.join().expect("the reader ends").expect("it had five bytes");
+    assert_eq!(ended, (Some(0), String::new()));
+}
+
+/// What was answered before a refused file stands before its complaint.
+#[test]
+fn answers_and_complaints_in_order() {
+    let folder = with_inputs("habits_order");
+    fs::write(folder.join("empty"), b"").unwrap();
+    let listing = run(&folder, &["list", "three-crests.vcp"]).output;
+    let both = File::create(folder.join("both")).expect("a file can be made");
+    let mut running = command();
+    running.args(["list", "three-crests.vcp", "empty", "three-crests.vcp"]).current_dir(&folder);
+    running.stdout(both.try_clone().expect("a file has two handles")).stderr(both);
+    assert_eq!(running.status().expect("the command ends").code(), Some(1));
+    let refused = "refused 1\nempty: refused 1: the file has fewer than 16 bytes\n";
+    assert_eq!(fs::read_to_string(folder.join("both")).unwrap(), format!("{listing}{refused}{listing}"));
+}
+
+/// A road file is not written to a terminal.
+#[test]
+fn terminal() {
+    let folder = with_inputs("habits_terminal");
+    let call = format!("{} road three-crests.txt", env!("CARGO_BIN_EXE_vcp"));
+    let ended = Command::new("script").args(["-qec", &call, "/dev/null"]).current_dir(folder).output();
+    let ended = ended.expect("the system has script, which gives a terminal");
+    let said = String::from_utf8(ended.stdout).expect("errors are text");
+    assert!(said.starts_with("vcp road: a road file is not for a terminal: name a file with -o\r\n"), "{said}");
+    assert_eq!(ended.status.code(), Some(2));
 }
 
 /// Where standard error cannot be written the status still tells.
@@ -207,10 +250,11 @@ fn help() {
         assert_eq!((help.errors.as_str(), help.status), ("", 0), "{name}");
         let usage = help.output.lines().next().expect("a first line");
         assert!(usage.starts_with(&format!("usage: vcp {name} ")), "{usage}");
-        let words = usage.split(|letter: char| " []()|".contains(letter));
-        for option in words.filter(|word| word.starts_with('-')) {
-            assert!(help.output.contains(&format!("\n  {option} ")), "{name} {option}");
-        }
+        let words = usage.split(|letter: char| " []".contains(letter));
+        let in_usage: Vec<&str> = words.filter(|word| word.starts_with('-')).collect();
+        let rows = help.output.lines().filter_map(|line| line.strip_prefix("  -"));
+        let in_rows: Vec<String> = rows.map(|row| format!("-{}", row.split(' ').next().unwrap_or_default())).collect();
+        assert_eq!(in_rows, in_usage, "{name}");
         assert_eq!(run(&folder, &[name, "x", "--nothing", "-h"]), help, "{name}");
         assert!(help.output.lines().skip(1).all(|line| line.chars().count() <= 80), "{name}");
     }
@@ -221,6 +265,32 @@ fn help() {
     let version = format!("vcp {}\n", env!("CARGO_PKG_VERSION"));
     common::expect(&folder, &["--version"], &version);
     common::expect(&folder, &["-V"], &version);
+}
+
+/// What the help says besides is so: defaults, limits, letters and the example of a text.
+#[test]
+fn help_is_true() {
+    let folder = folder("habits_help_is_true");
+    let help = |name: &str| run(&folder, &[name, "--help"]).output;
+    let row = |name: &str, option: &str| {
+        let help = help(name);
+        help.lines().find(|line| line.trim_start().starts_with(option)).expect("the option has a row").to_string()
+    };
+    let metres = |height: u32| format!("({})", roadtext::decimal::write(height.into(), 4, 2));
+    for name in ["sight", "crest"] {
+        assert!(row(name, "--eye").ends_with(&metres(exports::EYE_HEIGHT)), "{name}");
+        assert!(row(name, "--object").ends_with(&metres(exports::OBJECT_HEIGHT)), "{name}");
+    }
+    assert!(row("sight", "--farthest").ends_with(&format!("({})", exports::GREATEST_FARTHEST)));
+    assert!(help("check").contains(&format!(" at most {} of them", exports::GREATEST_LIST)));
+    let letters = ["S  stopping sight is lacking", "D  decision sight is lacking", "s  stopping is not judged"];
+    for line in letters.into_iter().chain(["R  reduced decision zone", "d  the decision is not judged"]) {
+        assert!(help("list").contains(&format!("\n  {line}")), "{line}");
+    }
+    let help = help("road");
+    let example = help.lines().filter_map(|line| line.strip_prefix("  ")).take(6);
+    let text: String = example.map(|line| format!("{line}\n")).collect();
+    assert_eq!(run_with(&folder, &["road", "-"], text.as_bytes()).0.status, 0, "{text}");
 }
 
 #[test]
@@ -240,6 +310,7 @@ fn wrong_arguments() {
     for command in OF_ROADS {
         common::expect_wrong(&folder, command, "FILE is missing");
         common::expect_wrong(&folder, &on(command, "--nothing"), "there is no option --nothing");
+        common::expect_wrong(&folder, &on(command, "--a\nb\u{1b}[31m"), "there is no option --a\\nb\\u{1b}[31m");
         if !["list", "report"].contains(&command[0]) {
             common::expect_wrong(&folder, &[command[0], "a", "b"], "\"b\" is one argument too many");
             common::expect_wrong(&folder, &[command[0], "a", "-o"], "-o needs OUT");

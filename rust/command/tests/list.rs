@@ -113,11 +113,14 @@ fn goes_on_after_a_refused_file() {
     assert_eq!(ended, Ended { output: format!("refused 5\n{text}"), errors, status: 2 });
 }
 
-/// A file's name stays on its line.
+/// A file's name stays on its line, and changes nothing on a terminal. It may look like an option.
 #[test]
-fn names_that_hold_a_line_feed() {
+fn odd_names() {
     let folder = folder("list_names");
-    fs::write(folder.join("a\nb.vcp"), b"").expect("a file is written");
-    let errors = "a\\nb.vcp: refused 1: the file has fewer than 16 bytes\n".to_string();
-    assert_eq!(run(&folder, &["list", "a\nb.vcp"]), Ended { output: "refused 1\n".to_string(), errors, status: 1 });
+    for (name, shown) in [("a\nb\u{1b}[31m.vcp", "a\\nb\\u{1b}[31m.vcp"), ("--help", "--help"), ("-o", "-o")] {
+        fs::write(folder.join(name), b"").expect("a file is written");
+        let errors = format!("{shown}: refused 1: the file has fewer than 16 bytes\n");
+        let ended = run(&folder, &["list", "--", name]);
+        assert_eq!(ended, Ended { output: "refused 1\n".to_string(), errors, status: 1 });
+    }
 }

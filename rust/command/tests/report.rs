@@ -58,14 +58,17 @@ fn numbers(text: &str) -> Vec<u32> {
 fn read_back(name: &str, report: &str) -> Said {
     let mut lines = report.lines();
     let title = lines.next().and_then(|line| line.strip_prefix(name)).expect("the name stands first");
-    let [from, to, speed] = numbers(title)[..] else { panic!("{title}") };
-    let (_, purpose) = title.rsplit_once("decision ").expect("the purpose stands last");
-    assert_eq!([lines.next(), lines.next().map(|line| &line[..5]),], [Some(""), Some("sight")]);
-    let sums = ["stopping", "decision"].map(|word| {
-        let line = lines.next().and_then(|line| line.strip_prefix(word)).expect("a line of sums");
+    let [speed, from, to] = numbers(title)[..] else { panic!("{title}") };
+    let (_, purpose) = title.split_once("decision ").expect("the purpose is named");
+    assert!(title.ends_with(" (rising)"), "{title}");
+    let all = format!("of {} stations", to - from + 1);
+    assert!(lines.next() == Some("") && lines.next().is_some_and(|line| line.starts_with(&all)), "{report}");
+    let sums = ["stopping sight", "decision sight"].map(|words| {
+        let line = lines.next().and_then(|line| line.strip_prefix(words)).expect("a line of sums");
         let items: Vec<&str> = line.split("   ").map(str::trim).filter(|item| !item.is_empty()).collect();
-        let metres = |place: usize| items[place].strip_suffix(" m").and_then(|item| item.parse().ok()).expect("metres");
-        ([metres(0), metres(1), metres(2), metres(4)], items[3].to_string())
+        let [needed, judged, lacking, share, not_judged] = items[..] else { panic!("{line}") };
+        let needed = needed.strip_suffix(" m").expect("a distance in metres");
+        ([needed, judged, lacking, not_judged].map(|number| number.parse().expect("a number")), share.to_string())
     });
     assert_eq!([lines.next(), lines.next().map(|line| &line[..4])], [Some(""), Some("zone")]);
     let mut zones = vec![Vec::new(); 5];
@@ -220,6 +223,19 @@ fn check_of_random_heights() {
     }
 }
 
+/// Hundreds of zones: a wall every forty metres.
+#[test]
+fn check_of_many_zones() {
+    let folder = folder("check_zones");
+    let heights: Vec<i32> = (0..8_001).map(|station| if station % 40 == 0 { 30_000 } else { 0 }).collect();
+    let survey: String =
+        (0..).zip(&heights).map(|(station, height)| format!("{station},{}\n", height / 10_000)).collect();
+    let ended = run_with(&folder, &["check", "-", "--speed", "20", "--purpose", "1"], survey.as_bytes()).0;
+    let said = read_back("-: ", &ended.output);
+    assert!(said.zones[0].len() > 190 && said.zones[2].len() > 190, "{} zones", said.zones[0].len());
+    assert_eq!(said, second(20, 1, &heights, 0));
+}
+
 /// Each way of writing the same heights.
 #[test]
 fn check_of_the_same_heights_written_otherwise() {
@@ -244,7 +260,10 @@ fn check_of_the_greatest_stations() {
     let folder = folder("check_greatest");
     let arguments = ["check", "-", "--speed", "20", "--purpose", "1"];
     let ended = run_with(&folder, &arguments, b"4294967295,0").0;
-    assert!(ended.output.starts_with("-: stations 4294967295 to 4294967295, 20 km/h, decision A\n"), "{ended:?}");
+    assert!(
+        ended.output.starts_with("-: 20 km/h, decision A, from station 4294967295 to 4294967295 (rising)\n"),
+        "{ended:?}"
+    );
     let ended = run_with(&folder, &arguments, b"4294967295,0\n4294967296,0").0;
     assert_eq!(ended.errors, "-:2: station: \"4294967296\" is out of range\n");
 }
@@ -274,6 +293,7 @@ fn faults_of_a_survey() {
         (0, "metre,height", "station: \"metre\" is no number"),
         (49, "50,0.0", "station 49 is missing before 50"),
         (1, "\0", no_line),
+        (1, "\u{feff}1,0.0", "station: \"\\u{feff}1\" is no number"),
     ] {
         let mut lines = good.clone();
         lines[place] = line.to_string();
@@ -281,6 +301,9 @@ fn faults_of_a_survey() {
         let error = format!("a.csv:{}: {reason}\n", place + 1);
         expect_error(&folder, &["check", "a.csv", "--speed", "20", "--purpose", "1"], 2, &error);
     }
+    fs::write(folder.join("a.csv"), "\n".repeat(100_000)).unwrap();
+    let error = "a.csv:80011: there are more than 80010 lines\n";
+    expect_error(&folder, &["check", "a.csv", "--speed", "20", "--purpose", "1"], 2, error);
     let first_after = "7,0\n6,0\n";
     fs::write(folder.join("a.csv"), first_after).unwrap();
     let error = "a.csv:2: station 6 stands after station 7\n";

@@ -2,10 +2,12 @@
 
 mod common;
 
-use std::fs;
+use std::fs::{self, File};
+use std::io::Read;
 use std::os::unix::fs::{symlink, PermissionsExt};
+use std::process::Command;
 
-use common::{expect, expect_error, folder, names, run_with};
+use common::{command, expect, expect_error, folder, names, run, run_with};
 use sight_tests::random::Random;
 use sight_tests::reference::file::bytes;
 use sight_tests::roads;
@@ -48,11 +50,46 @@ fn an_earlier_road_file_is_replaced() {
     fs::write(folder.join("a.vcp"), "a longer file that stood here before").unwrap();
     fs::set_permissions(folder.join("a.vcp"), fs::Permissions::from_mode(0o640)).unwrap();
     symlink("a.vcp", folder.join("link.vcp")).unwrap();
+    let mut before = File::open(folder.join("a.vcp")).unwrap();
     expect(&folder, &["road", "a.txt", "-o", "link.vcp"], "");
+    // It was not written over: whoever has the old file open reads it to its end.
+    let mut text = String::new();
+    before.read_to_string(&mut text).unwrap();
+    assert_eq!(text, "a longer file that stood here before");
     assert_eq!(fs::read(folder.join("a.vcp")).unwrap(), GOOD_FILE);
     assert_eq!(fs::metadata(folder.join("a.vcp")).unwrap().permissions().mode() & 0o777, 0o640);
     assert!(fs::symlink_metadata(folder.join("link.vcp")).unwrap().is_symlink());
     assert_eq!(names(&folder), ["a.txt", "a.vcp", "link.vcp"]);
+}
+
+/// Where a link leads to no file yet, the file is made there.
+#[test]
+fn a_link_to_a_new_file() {
+    let folder = folder("links");
+    fs::write(folder.join("a.txt"), GOOD).unwrap();
+    fs::create_dir(folder.join("roads")).unwrap();
+    symlink("roads/new.vcp", folder.join("link.vcp")).unwrap();
+    expect(&folder, &["road", "a.txt", "-o", "link.vcp"], "");
+    assert_eq!(fs::read(folder.join("roads/new.vcp")).unwrap(), GOOD_FILE);
+    symlink("loop.vcp", folder.join("loop.vcp")).unwrap();
+    let line = "loop.vcp: Too many levels of symbolic links\n";
+    expect_error(&folder, &["road", "a.txt", "-o", "loop.vcp"], 2, line);
+    assert_eq!(names(&folder), ["a.txt", "link.vcp", "loop.vcp", "roads"]);
+    assert_eq!(names(&folder.join("roads")), ["new.vcp"]);
+}
+
+/// Of many bad lines the first are said, and of a long word its beginning.
+#[test]
+fn many_bad_lines() {
+    let folder = folder("many_bad_lines");
+    fs::write(folder.join("a.txt"), format!("{}\n", "y".repeat(1_000)).repeat(100)).unwrap();
+    let ended = run(&folder, &["road", "a.txt"]);
+    let lines: Vec<&str> = ended.errors.lines().collect();
+    assert_eq!((ended.status, lines.len()), (2, 21));
+    let first = format!("a.txt:1: unknown words in \"{}\"...: a line begins with speed,", "y".repeat(60));
+    assert!(lines[0].starts_with(&first), "{}", lines[0]);
+    // 80 lines more, and five that are missing.
+    assert_eq!(lines[20], "a.txt: 85 more faults");
 }
 
 /// Each bad line has a line of its own, and what stood there before still stands.
@@ -109,7 +146,20 @@ fn files_that_cannot_be_written() {
     expect_error(&folder, &["road", "a.txt", "-o", ""], 2, &format!(": {there}\n"));
     let replaced = "./a.txt: it would replace what it is made from\n";
     expect_error(&folder, &["road", "a.txt", "-o", "./a.txt"], 2, replaced);
+    let from_standard = command()
+        .args(["road", "-", "-o", "./a.txt"])
+        .current_dir(&folder)
+        .stdin(File::open(folder.join("a.txt")).unwrap())
+        .output()
+        .expect("the command ends");
+    assert_eq!(from_standard.status.code(), Some(2));
+    assert_eq!(String::from_utf8_lossy(&from_standard.stderr), replaced);
+    // A program that runs may not be written.
+    fs::copy(env!("CARGO_BIN_EXE_vcp"), folder.join("vcp")).unwrap();
+    let itself = Command::new("./vcp").args(["road", "a.txt", "-o", "vcp"]).current_dir(&folder).output();
+    let itself = itself.expect("the copy runs");
+    assert_eq!(String::from_utf8_lossy(&itself.stderr), "vcp: Text file busy\n");
     expect_error(&folder, &["road", "a.txt", "-o", "/dev/full"], 2, "/dev/full: No space left on device\n");
     expect(&folder, &["road", "a.txt", "-o", "/dev/null"], "");
-    assert_eq!(names(&folder), ["a.txt", "a.vcp"]);
+    assert_eq!(names(&folder), ["a.txt", "a.vcp", "vcp"]);
 }

@@ -104,6 +104,14 @@ fn sights_of_random_roads() {
     }
 }
 
+/// As far as can be asked for, where nothing is said: on a level road the first station sees its end.
+#[test]
+fn farthest_of_all() {
+    let road = Road { speed: 20, purpose: 1, length: 8_000, start_height: 0, first_grade: 0, curves: vec![] };
+    let ended = run_with(&folder("sights_farthest"), &["sight", "-", "--to", "0"], &bytes(&road)).0;
+    assert_eq!(ended.output, "station_m,sight_m\n0,8000\n");
+}
+
 /// Into a file, whole; and what stood there before gives way.
 #[test]
 fn into_a_file() {
@@ -112,7 +120,7 @@ fn into_a_file() {
     fs::write(folder.join("a.csv"), "a longer text than the table that follows here, and of another kind").unwrap();
     expect(&folder, &["heights", "a.vcp", "-o", "a.csv", "--to=1"], "");
     assert_eq!(fs::read_to_string(folder.join("a.csv")).unwrap(), "station_m,height_m\n0,100.0000\n1,100.0000\n");
-    expect(&folder, &["sight", "-o=b.csv", "a.vcp", "--from=999"], "");
+    expect(&folder, &["sight", "-ob.csv", "a.vcp", "--from=999"], "");
     assert_eq!(fs::read_to_string(folder.join("b.csv")).unwrap(), "station_m,sight_m\n999,1\n1000,0\n");
     expect(&folder, &["heights", "a.vcp", "--from", "1000", "-o", "-"], "station_m,height_m\n1000,100.0000\n");
     assert_eq!(common::names(&folder), ["a.csv", "a.vcp", "b.csv"]);
@@ -124,15 +132,20 @@ fn wrong_options() {
     let folder = folder("tables_wrong");
     fs::copy(root().join("roads/level.vcp"), folder.join("a.vcp")).expect("the road ships with the repository");
     for name in ["heights", "sight"] {
-        expect_wrong(&folder, &[name, "a.vcp", "--to", "1001"], "--to 1001: the last station is 1000");
-        expect_wrong(&folder, &[name, "a.vcp", "--from", "1001"], "--from 1001: the last station is 1000");
-        expect_wrong(&folder, &[name, "a.vcp", "--from", "9", "--to", "8"], "--from 9 is beyond --to 8");
+        expect_wrong(&folder, &[name, "a.vcp", "--to", "1001"], "--to: the last station is 1000");
+        expect_wrong(&folder, &[name, "a.vcp", "--from", "1001"], "--from: the last station is 1000");
+        expect_wrong(&folder, &[name, "a.vcp", "--to", "4294967296"], "--to: the last station is 1000");
+        expect_wrong(&folder, &[name, "a.vcp", "--from", "4294967296"], "--from: the last station is 1000");
+        expect_wrong(&folder, &[name, "a.vcp", "--from", "9", "--to", "8"], "--from is beyond --to");
         expect_wrong(&folder, &[name, "a.vcp", "--from", "1.0"], "--from: \"1.0\" is not whole");
         expect_wrong(&folder, &[name, "a.vcp", "--from", "-1"], "--from: \"-1\" is negative");
         expect_wrong(&folder, &[name, "a.vcp", "--from", "1", "--from", "2"], "--from stands twice");
         expect_wrong(&folder, &[name, "a.vcp", "--from"], "--from needs M");
+        expect_wrong(&folder, &[name, "a.vcp", "--from", "--to", "5"], "--from needs M");
+        // What is used wrongly is said before the file is read.
+        expect_wrong(&folder, &[name, "none.vcp", "--from", "9", "--to", "8"], "--from is beyond --to");
     }
-    expect_wrong(&folder, &["heights", "a.vcp", "--every", "0"], "--every 0 is no step");
+    expect_wrong(&folder, &["heights", "none.vcp", "--every", "0"], "--every 0 is no step");
     expect_wrong(&folder, &["heights", "a.vcp", "--eye", "1"], "there is no option --eye");
     expect_wrong(&folder, &["sight", "a.vcp", "--every", "1"], "there is no option --every");
     expect_wrong(&folder, &["sight", "a.vcp", "--eye", "1.00001"], "--eye: \"1.00001\" has more than 4 decimals");
@@ -144,7 +157,7 @@ fn wrong_options() {
 fn refused_options() {
     let folder = folder("tables_refused");
     fs::copy(root().join("roads/level.vcp"), folder.join("a.vcp")).expect("the road ships with the repository");
-    let height = "a.vcp: refused 17: the height of eye or object is not 1 to 50,000 h-units\n";
+    let height = "a.vcp: refused 17: the height of eye or object is not 1 to 50,000 h-units (0.0001 to 5 m)\n";
     let farthest = "a.vcp: refused 21: the farthest distance is not 1 to 8,000 m\n";
     for (name, value, line) in [
         ("--eye", "0", height),

@@ -1,5 +1,14 @@
 //! Decimal numbers, counted in units of their last decimal: read digit by digit and written exactly, with no float.
 
+/// A word between quotes, of a long one the beginning.
+pub(crate) fn quoted(text: &str) -> String {
+    const MOST: usize = 60;
+    match text.char_indices().nth(MOST) {
+        Some((end, _)) => format!("{:?}...", &text[..end]),
+        None => format!("{text:?}"),
+    }
+}
+
 /// Reads a number with at most so many decimals behind a point, after a minus if it is negative. One that does not fit 64 bits
 /// is read as the last that does, which is beyond every range that is asked for.
 ///
@@ -18,14 +27,14 @@ pub fn read(text: &str, decimals: usize) -> Result<i64, String> {
     let (whole, behind) = size.split_once('.').map_or((size, None), |(whole, behind)| (whole, Some(behind)));
     let digits = |part: &str| !part.is_empty() && part.bytes().all(|letter| letter.is_ascii_digit());
     if !digits(whole) || !behind.is_none_or(digits) {
-        return Err(format!("{text:?} is no number"));
+        return Err(format!("{} is no number", quoted(text)));
     }
     let behind = behind.unwrap_or_default();
     if behind.len() > decimals {
         return Err(match decimals {
-            0 => format!("{text:?} is not whole"),
-            1 => format!("{text:?} has more than 1 decimal"),
-            most => format!("{text:?} has more than {most} decimals"),
+            0 => format!("{} is not whole", quoted(text)),
+            1 => format!("{} has more than 1 decimal", quoted(text)),
+            most => format!("{} has more than {most} decimals", quoted(text)),
         });
     }
     let negative = text.starts_with('-');

@@ -2,7 +2,7 @@
 
 use std::ops::RangeInclusive;
 
-use crate::decimal;
+use crate::decimal::{self, quoted};
 
 /// A number of the road file: its name and unit in a text, with how many decimals at most, and its bytes in the file, where
 /// it is counted in units of the last decimal.
@@ -83,15 +83,15 @@ impl Field {
             return Ok(number);
         }
         let [least, greatest] = [self.range().start(), self.range().end()].map(|&number| self.decimal(number));
-        Err(format!("{text:?} does not fit the road file, which has room for {least} to {greatest}"))
+        Err(format!("{} does not fit the road file, which has room for {least} to {greatest}", quoted(text)))
     }
 
     fn check_unit(&self, unit: &str) -> Result<(), String> {
         match (unit, self.unit) {
             (unit, own) if unit == own => Ok(()),
             ("", own) => Err(format!("the unit {own} is missing")),
-            (unit, "") => Err(format!("{unit:?} follows a number that has no unit")),
-            (unit, own) => Err(format!("the unit is {own}, not {unit:?}")),
+            (unit, "") => Err(format!("{} follows a number that has no unit", quoted(unit))),
+            (unit, own) => Err(format!("the unit is {own}, not {}", quoted(unit))),
         }
     }
 }

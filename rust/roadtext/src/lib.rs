@@ -127,6 +127,9 @@ pub fn accept(file: &[u8]) -> Result<Vec<u8>, Refusal> {
     Ok(written[..length as usize].to_vec())
 }
 
+/// What some programs put at the front of a text.
+pub const BYTE_ORDER_MARK: char = '\u{feff}';
+
 /// The letters and the version that a road file begins with.
 const START: [u8; 5] = *b"VCP\x01\x00";
 

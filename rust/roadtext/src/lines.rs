@@ -1,10 +1,8 @@
 //! The lines of a text, read into the road file's numbers.
 
+use crate::decimal::quoted;
 use crate::field::{CURVE, HEAD};
-use crate::Fault;
-
-/// What some editors put at the front of a text.
-const BYTE_ORDER_MARK: char = '\u{feff}';
+use crate::{Fault, BYTE_ORDER_MARK};
 
 /// An item, and the line where it stands.
 #[derive(Clone, Copy)]
@@ -42,7 +40,7 @@ impl Items {
         let found = head.find_map(|(field, place)| Some((field, place, after(field.name, &text)?)));
         let Some((field, place, number)) = found else {
             let names = HEAD.map(|field| field.name).join(", ");
-            return Err(format!("unknown words in {text:?}: a line begins with {names} or curve"));
+            return Err(format!("unknown words in {}: a line begins with {names} or curve", quoted(&text)));
         };
         if let Some(first) = place {
             return Err(format!("{} stands on line {} already", field.name, first.line));
