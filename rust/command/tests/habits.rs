@@ -12,7 +12,9 @@ use std::process::{Command, Stdio};
 use std::thread;
 
 use common::{command, expect_error, folder, root, run, run_with, Ended};
-use sight_tests::roads::EXAMPLE;
+use sight_tests::random::Random;
+use sight_tests::reference::file::bytes;
+use sight_tests::roads::{self, EXAMPLE};
 
 /// The commands that read a road file, with what stands before and behind its name.
 const OF_ROADS: [&[&str]; 6] = [&["list"], &["report"], &["heights"], &["sight"], &["plot"], &["text"]];
@@ -195,8 +197,10 @@ fn closed_named_pipe() {
     let made = Command::new("mkfifo").arg(folder.join("pipe")).status().expect("the system has mkfifo");
     assert!(made.success());
     let pipe = folder.join("pipe");
+    // The heights of the longest road are more than a pipe holds.
+    fs::write(folder.join("long.vcp"), bytes(&roads::longest(&mut Random::new(91)))).unwrap();
     let reader = thread::spawn(move || File::open(pipe).and_then(|mut pipe| pipe.read_exact(&mut [0; 5])));
-    let ended = into(&folder, &["plot", "three-crests.vcp", "-o", "pipe"], Stdio::null());
+    let ended = into(&folder, &["heights", "long.vcp", "-o", "pipe"], Stdio::null());
     reader.join().expect("the reader ends").expect("it had five bytes");
     assert_eq!(ended, (Some(0), String::new()));
 }
