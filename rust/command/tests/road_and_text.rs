@@ -154,8 +154,9 @@ fn files_that_cannot_be_written() {
         .expect("the command ends");
     assert_eq!(from_standard.status.code(), Some(2));
     assert_eq!(String::from_utf8_lossy(&from_standard.stderr), replaced);
-    // A program that runs may not be written.
-    fs::copy(env!("CARGO_BIN_EXE_vcp"), folder.join("vcp")).unwrap();
+    // A program that runs may not be written. It is copied by another process, for one that is still open here cannot be run.
+    let copied = Command::new("cp").args([env!("CARGO_BIN_EXE_vcp"), "vcp"]).current_dir(&folder).status();
+    assert!(copied.is_ok_and(|status| status.success()));
     let itself = Command::new("./vcp").args(["road", "a.txt", "-o", "vcp"]).current_dir(&folder).output();
     let itself = itself.expect("the copy runs");
     assert_eq!(String::from_utf8_lossy(&itself.stderr), "vcp: Text file busy\n");
