@@ -9,9 +9,8 @@ SHELL := /bin/bash
 .NOTPARALLEL:
 .PHONY: test list plot text road vcp install bench given textable tools fmt clean
 
-# The road file that `make list` lists, `make plot` draws and `make text` prints, and the file of its picture.
+# The road file that `make list` lists, `make plot` draws and `make text` prints.
 ROAD ?= roads/three-crests.vcp
-PLOT ?= target/plot/$(basename $(notdir $(ROAD))).svg
 
 # Where `make install` puts the command: $(PREFIX)/bin.
 PREFIX ?= /usr/local
@@ -45,11 +44,14 @@ install: vcp
 list: given vcp
 	$(run) list -- "$(ROAD)"
 
-# Draws a road's profile and zones. A refused file leaves the picture as it was.
+# Draws a road's profile and zones into the file PLOT, or under the road's name into target/plot. A refused file leaves the
+# picture as it was.
 plot: given vcp
-	mkdir -p "$$(dirname "$(PLOT)")"
-	$(run) plot -o "$(PLOT)" -- "$(ROAD)"
-	echo "$(PLOT)"
+	plot="$(PLOT)"
+	: "$${plot:=target/plot/$$(basename "$(ROAD)" .vcp).svg}"
+	mkdir -p "$$(dirname "$$plot")"
+	$(run) plot -o "$$plot" -- "$(ROAD)"
+	echo "$$plot"
 
 # Prints the text of a road file.
 text: given vcp

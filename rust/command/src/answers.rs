@@ -50,8 +50,10 @@ pub fn write_answer(given: &Given, output: &mut Output, bytes: &[u8]) -> Result<
         Some(path) if output::is_input(path, given.file()) => {
             return Err(Trouble::failed(format!("{}: it would replace what it is made from", shown(path))));
         }
-        Some(path) => output::write_file(path, bytes).map_err(|error| Trouble::with_file(path, &error))?,
-        None => output.write(bytes)?,
+        Some(path) if !output::is_standard(path) => {
+            output::write_file(path, bytes).map_err(|error| Trouble::with_file(path, &error))?;
+        }
+        _ => output.write(bytes)?,
     }
     Ok(ANSWERED)
 }

@@ -81,7 +81,7 @@ The listing of a refused file is one line, 'refused' and the number.",
     },
     Command {
         name: "report",
-        prints: "the same in words, for people",
+        prints: "the zones of road files in words, for people",
         details: "\
 For each road: the distances that are needed; at how many stations sight is
 judged, lacking and not judged; every zone in words, with its length. There is a

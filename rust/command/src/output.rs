@@ -2,6 +2,7 @@
 
 use std::fs::{self, File, Metadata};
 use std::io::{self, BufWriter, ErrorKind, StdoutLock, Write};
+use std::os::unix::fs::MetadataExt;
 use std::path::{Path, PathBuf};
 use std::process;
 
@@ -46,6 +47,13 @@ pub fn is_input(output: &Path, input: &Path) -> bool {
     fs::canonicalize(output).is_ok_and(same)
 }
 
+/// Whether a name stands for what standard output goes to, as `/dev/stdout` does: that is written on, and not replaced.
+pub fn is_standard(path: &Path) -> bool {
+    let [there, standard] = [path, Path::new("/dev/stdout")].map(fs::metadata);
+    let place = |file: Metadata| (file.dev(), file.ino());
+    there.is_ok_and(|there| standard.is_ok_and(|standard| place(there) == place(standard)))
+}
+
 /// Writes a file. What is no plain file, as a device or a named pipe, takes the bytes as they come.
 pub fn write_file(path: &Path, bytes: &[u8]) -> io::Result<()> {
     match fs::metadata(path) {
@@ -77,7 +85,7 @@ fn new_beside(path: &Path) -> io::Result<(PathBuf, File)> {
 }
 
 /// Writes a plain file whole or not at all: under another name beside its place, and then renamed. A file that it replaces
-/// hands on its permissions; its owner, and other names that it has, it does not.
+/// hands on its permissions; its owner, and other names that it has, it does not. A signal meanwhile leaves the other name.
 fn write_whole(path: &Path, bytes: &[u8], before: Option<&Metadata>) -> io::Result<()> {
     let (beside, mut file) = new_beside(path)?;
     let written = before

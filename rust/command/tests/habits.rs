@@ -16,7 +16,7 @@ use sight_tests::random::Random;
 use sight_tests::reference::file::bytes;
 use sight_tests::roads::{self, EXAMPLE};
 
-/// The commands that read a road file, with what stands before and behind its name.
+/// The commands that read a road file, with what stands before its name.
 const OF_ROADS: [&[&str]; 6] = [&["list"], &["report"], &["heights"], &["sight"], &["plot"], &["text"]];
 
 /// The commands that read something else.
@@ -201,8 +201,8 @@ fn closed_named_pipe() {
     fs::write(folder.join("long.vcp"), bytes(&roads::longest(&mut Random::new(91)))).unwrap();
     let reader = thread::spawn(move || File::open(pipe).and_then(|mut pipe| pipe.read_exact(&mut [0; 5])));
     let ended = into(&folder, &["heights", "long.vcp", "-o", "pipe"], Stdio::null());
-    reader.join().expect("the reader ends").expect("it had five bytes");
     assert_eq!(ended, (Some(0), String::new()));
+    reader.join().expect("the reader ends").expect("it had five bytes");
 }
 
 /// What was answered before a refused file stands before its complaint.
@@ -224,9 +224,12 @@ fn answers_and_complaints_in_order() {
 #[test]
 fn terminal() {
     let folder = with_inputs("habits_terminal");
-    let call = format!("{} road three-crests.txt", env!("CARGO_BIN_EXE_vcp"));
-    let ended = Command::new("script").args(["-qec", &call, "/dev/null"]).current_dir(folder).output();
-    let ended = ended.expect("the system has script, which gives a terminal");
+    let ended = Command::new("script")
+        .args(["-qec", "\"$VCP\" road three-crests.txt", "/dev/null"])
+        .envs([("VCP", env!("CARGO_BIN_EXE_vcp")), ("SHELL", "/bin/sh")])
+        .current_dir(folder)
+        .output()
+        .expect("the system has script, which gives a terminal");
     let said = String::from_utf8(ended.stdout).expect("errors are text");
     assert!(said.starts_with("vcp road: a road file is not for a terminal: name a file with -o\r\n"), "{said}");
     assert_eq!(ended.status.code(), Some(2));

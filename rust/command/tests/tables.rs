@@ -2,7 +2,8 @@
 
 mod common;
 
-use std::fs;
+use std::fs::{self, File};
+use std::io::Write;
 
 use common::{expect, expect_error, expect_wrong, folder, root, run_with};
 use sight_tests::random::Random;
@@ -123,6 +124,16 @@ fn into_a_file() {
     expect(&folder, &["sight", "-ob.csv", "a.vcp", "--from=999"], "");
     assert_eq!(fs::read_to_string(folder.join("b.csv")).unwrap(), "station_m,sight_m\n999,1\n1000,0\n");
     expect(&folder, &["heights", "a.vcp", "--from", "1000", "-o", "-"], "station_m,height_m\n1000,100.0000\n");
+    // What standard output goes to is written on, and not replaced.
+    let mut both = File::create(folder.join("both")).unwrap();
+    both.write_all(b"before\n").unwrap();
+    let mut running = common::command();
+    running.args(["heights", "a.vcp", "--from", "1000", "-o", "/dev/stdout"]).current_dir(&folder);
+    assert!(running.stdout(both.try_clone().unwrap()).status().expect("the command ends").success());
+    both.write_all(b"after\n").unwrap();
+    let text = fs::read_to_string(folder.join("both")).unwrap();
+    assert_eq!(text, "before\nstation_m,height_m\n1000,100.0000\nafter\n");
+    fs::remove_file(folder.join("both")).unwrap();
     assert_eq!(common::names(&folder), ["a.csv", "a.vcp", "b.csv"]);
 }
 
