@@ -171,5 +171,6 @@ fn on_the_sheet(all: &Elements) {
     for Outline { points, .. } in &all.outlines()[3..] {
         assert!(points.iter().all(|(x, y)| (0..=160_000).contains(x) && (0..=90_000).contains(y)), "{points:?}");
     }
-    assert!(all.with("class", "grid").count() <= 17 + 1 + 11);
+    // At most 16 steps of stations, of which a road's end is one, and 10 of heights.
+    assert!(all.with("class", "grid").count() <= 17 + 11);
 }
