@@ -9,7 +9,7 @@ use borrow.Author.Tests.{le-ltb, lt-leb}
 use lib.Dec.{T}
 use lib.IntN.{ℤ, pos}
 use lib.ListN.{length, getD}
-use Rattle.whole.specs.Floor.{Frac}
+use Rattle.whole.specs.Fractions.{Frac}
 use Rattle.whole.proofs.Fill.{filled-at}
 use Rattle.whole.proofs.Floor.{Floor}
 use Rattle.terms.specs.Answers.{outside, listOutside, eyeOrObjectOutside}

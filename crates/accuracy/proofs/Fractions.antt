@@ -9,11 +9,10 @@ use native.Mathlib.Omega.{arith}
 use lib.Dec.{T}
 use lib.IntN.{ℤ, pos, _+ℤ_, _*ℤ_}
 use lib.Signed.{_≤ℤ_, ≤ℤ-refl, leZ}
-use Rattle.whole.specs.Floor.{Frac}
+use Rattle.whole.specs.Fractions.{Frac, raised, _+F_, _*F_, leF}
 use Rattle.whole.proofs.Floor.{Floor, floor-den}
 use Rattle.whole.proofs.Int.{var, reps, eq-by}
 use Rattle.whole.proofs.Ring.{≤ℤ-trans, ≤ℤ-of-<, +ℤ-mono, *ℤ-mono, *ℤ-cancel, ring}
-use Rattle.accuracy.specs.ExactSight.{raised, _+F_, _*F_, leF}
 
 -- ---- over one denominator
 -- the exact heights x / d below the eye, y / d below the object and z / d between, and the stored heights u, v and w

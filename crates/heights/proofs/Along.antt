@@ -10,7 +10,8 @@ use lib.IntN.{ℤ, pos, natAbs, negℤ, _+ℤ_, _-ℤ_, _*ℤ_}
 use mir.Syntax.{w16, w32}
 use mir.Val.{toZ, ofZ}
 use Rattle.whole.specs.Fill.{filled}
-use Rattle.whole.specs.Floor.{whole, floorDiv, floor}
+use Rattle.whole.specs.Floor.{floorDiv, floor}
+use Rattle.whole.specs.Fractions.{whole}
 use Rattle.whole.proofs.Fill.{filled-then}
 use Rattle.whole.proofs.Floor.{floor-plus, floor-whole, floor-size-by}
 use Rattle.whole.proofs.Range.{Reads, knownR, add-size, neg-size, mul-size, range-size}

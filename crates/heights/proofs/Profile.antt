@@ -9,7 +9,7 @@ use native.Mathlib.Nat.{div-add-mod}
 use native.Mathlib.Omega.{arith}
 use lib.Dec.{T, leb, leb→le, nleb→lt}
 use lib.IntN.{ℤ, pos, _+ℤ_, _*ℤ_}
-use Rattle.whole.specs.Floor.{Frac}
+use Rattle.whole.specs.Fractions.{Frac}
 use Rattle.whole.proofs.Floor.{Floor, floor-is}
 use Rattle.whole.proofs.Int.{var, reps, eq-by}
 use Rattle.road.specs.declared.Curve.{Curve}

@@ -9,7 +9,8 @@ use lib.IntN.{ℤ, natAbs}
 use lib.ListN.{length, drop, set}
 use lib.Seq.{drop-length, length-take-le}
 use Rattle.whole.specs.Fill.{filled}
-use Rattle.whole.specs.Floor.{whole, floor}
+use Rattle.whole.specs.Floor.{floor}
+use Rattle.whole.specs.Fractions.{whole}
 use Rattle.whole.proofs.Fill.{filled-none, filled-next, filled-then}
 use Rattle.whole.proofs.Floor.{floor-whole}
 use Rattle.whole.proofs.Int.{var, reps, eq-by}

@@ -3,7 +3,8 @@
 use Prim.Native.Nat.{ℕ, _+_, _-_, _*_, _≤_}
 use mathlib.Core.List.{List}
 use lib.IntN.{ℤ, natAbs}
-use Rattle.whole.specs.Floor.{Frac, floor}
+use Rattle.whole.specs.Floor.{floor}
+use Rattle.whole.specs.Fractions.{Frac}
 use Rattle.terms.specs.Limits.{highestStart, greatestGrade, greatestCurve}
 use Rattle.road.specs.declared.Curve.{Curve}
 use Rattle.road.specs.Road.{begin, end}

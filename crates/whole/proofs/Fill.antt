@@ -1,8 +1,8 @@
--- Laws of `filled`: its length, each of its filled places, how it grows by one store at its end or its front, and what it
--- depends on.
+-- Laws of `filled`: its length, each of its filled places, the places that stay, how it grows by one store at its end or its
+-- front, and what it depends on.
 use mathlib.Core.Path.{_≡_, refl, sym, ap, _∙_}
 use mathlib.Core.List.{List}
-use mathlib.Core.Logic.{⊎-elim}
+use mathlib.Core.Logic.{_⊎_, inl, inr, ⊎-elim}
 use Prim.Native.Nat.{ℕ, zero, suc, _+_, _≤_, _<_}
 use native.Mathlib.Nat.{eq-or-lt-of-le, add-assoc, add-suc, add-zero}
 use native.Mathlib.Numerals.{add-one}
@@ -27,6 +27,14 @@ module _ {A : Type 0} (f : ℕ → A) (i : ℕ) where
       (λ e. rw e (getD-set-same (filled f i n xs) (i + n) (f (i + n)) z (omega (arith, filled-length n xs))))
       (λ s. getD-set-other (filled f i n xs) (i + n) k (f (i + n)) z (λ e. omega arith) ∙ filled-at n xs k z l s m)
       (eq-or-lt-of-le {n = k} {m = i + n} (omega arith))
+
+  -- ---- each place before and behind them stays
+  pub filled-stays : (n : ℕ) (xs : List A) (k : ℕ) (z : A) → (k < i) ⊎ (i + n ≤ k) → getD (filled f i n xs) k z ≡ getD xs k z
+  unfolding filled
+  filled-stays zero xs k z out = refl
+  filled-stays (suc n) xs k z out =
+      getD-set-other (filled f i n xs) (i + n) k (f (i + n)) z (λ e. ⊎-elim (λ l. omega arith) (λ l. omega arith) out)
+      ∙ filled-stays n xs k z (⊎-elim (λ l. inl l) (λ l. inr (omega arith)) out)
 
   -- ---- a loop that fills: its start, one store more, its end
   pub filled-none : (xs : List A) → xs ≡ filled f i 0 xs

@@ -11,7 +11,8 @@ use mir.Syntax.{Width}
 use mir.Val.{SFits, ofZ}
 use mir.ValLaws.{sfits-le}
 use mir.Facts.{and-yes}
-use Rattle.whole.specs.Floor.{Frac, whole, floorDiv, floor}
+use Rattle.whole.specs.Floor.{floorDiv, floor}
+use Rattle.whole.specs.Fractions.{Frac, whole}
 use Rattle.whole.proofs.Int.{var, nat, add, by, le-by, lt-by, le-to, lt-to, reps}
 use Rattle.whole.proofs.Ring.{≤ℤ-antisym, ≤ℤ-<ℤ-trans, ≤ℤ-of-<-suc, *ℤ-cancel-<}
 use Rattle.whole.proofs.Range.{Below, Reads}

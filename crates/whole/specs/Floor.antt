@@ -1,16 +1,8 @@
--- Fractions, and rounding them down: document 01, "The road and its heights", the whole number at or next below the exact
--- height, also where the fraction is negative.
-use Prim.Native.Nat.{ℕ, zero, suc, _/_}
+-- Rounding down: docs/RULES.md, "The road and its heights", the whole number at or next below the exact height, also where the
+-- fraction is negative.
+use Prim.Native.Nat.{zero, suc, _/_}
 use lib.IntN.{ℤ, pos, negsuc}
-
--- num over den; den is positive wherever one is used
-pub record Frac : Type 0 where
-  pub num : ℤ
-  pub den : ℕ
-
--- a whole number as a fraction
-abbrev pub whole : ℤ → Frac
-whole z = record { num = z; den = 1 }
+use Rattle.whole.specs.Fractions.{Frac}
 
 -- n / d rounded down: the greatest whole number not above n / d for a positive d, and 0 where d is not positive.
 -- `negsuc n` is −(n + 1), and −(n + 1) / d rounded down is −(n / d + 1)
