@@ -7,10 +7,10 @@ use native.Mathlib.Omega.{arith}
 use lib.Dec.{ltb}
 use Rattle.whole.proofs.Table.{each-at}
 use Rattle.terms.specs.Answers.{outside}
-use Rattle.terms.specs.Limits.{leastSpeed, greatestSpeed, lastPurpose}
-use Rattle.terms.proofs.Laws.{AtMost, refuse-at-most, inside}
+use Rattle.terms.specs.Limits.{leastSpeed, greatestSpeed, stoppingPurpose, lastPurpose}
+use Rattle.terms.proofs.Laws.{AtMost, value-at-most, refuse-at-most, inside}
 use Rattle.distance.specs.declared.Purpose.{Purpose}
-use Rattle.distance.specs.Distance.{purposes, purposeRow, metreParts, levelParts, upToFive, requiredDistance}
+use Rattle.distance.specs.Distance.{purposes, purposeRow, metreParts, levelParts, upToFive, requiredDistance, distancesFor}
 
 -- ---- rounding up to 5 m
 module _ (num den : ℕ) (l : 0 < den) where
@@ -54,3 +54,10 @@ required-at-most v p =
     let h = inside leastSpeed greatestSpeed v s in
     let n = level-parts-small v (purposeRow p) (h .1) (reaction-small p) in
     omega (arith, up-to-five-below (levelParts v (purposeRow p)) metreParts (omega arith))))
+
+pub distances-at-most : (v p : ℕ) → (distancesFor v p .stopping ≤ 725) × (distancesFor v p .decision ≤ 725)
+unfolding distancesFor
+distances-at-most v p = (
+  value-at-most (requiredDistance v stoppingPurpose) (required-at-most v stoppingPurpose),
+  value-at-most (requiredDistance v p) (required-at-most v p),
+)

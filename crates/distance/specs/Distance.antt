@@ -1,4 +1,4 @@
--- Document 01, "Distances a driver needs": the required sight distance in whole metres.
+-- docs/RULES.md, "Distances a driver needs": the required sight distance in whole metres.
 --
 -- Source document 002, equation (1), with the speed V in km/h and the reaction time T in seconds:
 --   distance in m = 0.278 V T + 0.039 V² / a, a = 3.4 m/s².
@@ -10,11 +10,12 @@ use mathlib.Core.Bool.{Bool, true, false, cond}
 use mathlib.Core.List.{List, [], _∷_}
 use lib.Dec.{ltb}
 use lib.ListN.{getD}
-use Rattle.terms.specs.Answers.{outside, refuse}
-use Rattle.terms.specs.Limits.{leastSpeed, greatestSpeed, lastPurpose}
+use Rattle.terms.specs.Answers.{outside, refuse, valueOrZero}
+use Rattle.terms.specs.Limits.{leastSpeed, greatestSpeed, stoppingPurpose, lastPurpose}
 use Rattle.terms.specs.Refusals.{speedRefused, purposeRefused}
 use Rattle.terms.specs.declared.Answer.{Answer}
 use Rattle.terms.specs.declared.Answer.the-variants.{Number}
+use Rattle.distance.specs.declared.Distances.{Distances}
 use Rattle.distance.specs.declared.Purpose.{Purpose}
 
 abbrev row : ℕ → Bool → Purpose
@@ -46,3 +47,10 @@ requiredDistance v p =
     refuse (outside leastSpeed greatestSpeed v) speedRefused
     (refuse (ltb lastPurpose p) purposeRefused
     (Number (upToFive (levelParts v (purposeRow p)) metreParts)))
+
+-- what a speed needs to stop, and to decide for a purpose; 0 where that is refused
+unfoldable pub distancesFor : ℕ → ℕ → Distances
+distancesFor v p = record {
+  stopping = valueOrZero (requiredDistance v stoppingPurpose);
+  decision = valueOrZero (requiredDistance v p);
+}

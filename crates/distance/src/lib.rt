@@ -1,14 +1,20 @@
-// Document 01, "Distances a driver needs": the required sight distance.
+// docs/RULES.md, "Distances a driver needs": the required sight distance.
 ghost use mathlib.Core.Path.{_≡_};
 ghost use Prim.Native.Nat.{_<_, _≤_, _*_};
 ghost use Rattle.terms.specs.Limits.{greatestSpeed};
-ghost use Rattle.distance.specs.Distance.{requiredDistance, levelParts, upToFive};
+ghost use Rattle.distance.specs.Distance.{requiredDistance, distancesFor, levelParts, upToFive};
 use terms::Answer;
 
 // A purpose's reaction time in tenths of a second, and whether the braking term counts.
 pub struct Purpose {
     pub reaction: u64,
     pub braking: bool,
+}
+
+// What a speed needs to stop, and to decide for a purpose, in metres.
+pub struct Distances {
+    pub stopping: u32,
+    pub decision: u32,
 }
 
 // Stopping, then decision A to E.
@@ -76,4 +82,16 @@ pub fn required_distance(speed: u32, purpose: u32) -> Answer
     let at = purpose as usize;
     let parts = level_parts(speed as u64, PURPOSES[at]);
     Answer::Number(up_to_five(parts, METRE_PARTS) as u32)
+}
+
+// The distance to stop and the one to decide; 0 where it is refused.
+pub fn distances_for(speed: u32, purpose: u32) -> Distances
+    ensures { λ r. ⌜ r ≡ distancesFor speed purpose ⌝ }
+{
+    let stopping = required_distance(speed, terms::STOPPING_PURPOSE);
+    let decision = required_distance(speed, purpose);
+    Distances {
+        stopping: terms::value_or_zero(stopping),
+        decision: terms::value_or_zero(decision),
+    }
 }

@@ -1,4 +1,4 @@
--- The ranges of document 01, the heights that marks are taken with, and a length for any listing.
+-- The ranges of docs/RULES.md, and the heights that marks are taken with.
 use Prim.Native.Nat.{ℕ}
 use lib.IntN.{ℤ, pos, negℤ}
 
@@ -53,15 +53,19 @@ greatestCrest = 2000
 abbrev pub greatestHeight : ℕ
 greatestHeight = 50000
 
--- a list of heights or marks: the stations of the longest road
+-- a list of heights or marks
 abbrev pub greatestList : ℕ
 greatestList = 8001
+
+-- the longest road that is marked, and so listed, in metres
+abbrev pub greatestMarkedRoad : ℕ
+greatestMarkedRoad = 8000
 
 -- the farthest distance that is looked at, in metres
 abbrev pub greatestFarthest : ℕ
 greatestFarthest = 8000
 
--- the last bit of a mark
+-- the last bit that zones are asked for
 abbrev pub lastBit : ℕ
 lastBit = 4
 

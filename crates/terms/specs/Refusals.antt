@@ -1,4 +1,4 @@
--- The refusal numbers of document 01.
+-- The refusal numbers of docs/RULES.md.
 use Prim.Native.Nat.{ℕ}
 
 -- a file of fewer than 16 bytes

@@ -1,5 +1,5 @@
-// The answer of an operation and the verdict on a road, the tests of ranges, and the limits and refusal numbers of document 01
-// as the code names them. specs/Limits.antt and specs/Refusals.antt give the definitions the same numbers under the same names.
+// The answer of an operation and the verdict on a road, the tests of ranges, and the limits and refusal numbers of
+// docs/RULES.md as the code names them. specs/Limits.antt and specs/Refusals.antt give the definitions the same numbers under the same names.
 
 ghost use mathlib.Core.Path.{_≡_};
 ghost use Rattle.terms.specs.Answers.{outside, listOutside, eyeOrObjectOutside, valueOrZero, signed};
@@ -100,13 +100,18 @@ pub const GREATEST_CREST: u32 = 2000;
 // The height of an eye or an object, in h-units.
 pub const GREATEST_HEIGHT: u32 = 50000;
 
-// A list of heights or marks: the stations of the longest road.
+// A list of heights or marks.
 pub const GREATEST_LIST: usize = 8001;
+
+// The longest road that is marked, and so listed, in metres, and how many stations it has.
+pub const GREATEST_MARKED_ROAD: u32 = 8000;
+
+pub const MARKED_STATIONS: usize = GREATEST_MARKED_ROAD as usize + 1;
 
 // The farthest distance that is looked at, in metres.
 pub const GREATEST_FARTHEST: u32 = 8000;
 
-// The last bit of a mark.
+// The last bit that zones are asked for.
 pub const LAST_BIT: u32 = 4;
 
 // The heights of the eye, 1.08 m, and of the object, 0.60 m, in h-units, that a road is marked with.

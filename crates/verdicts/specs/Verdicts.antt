@@ -1,0 +1,33 @@
+-- docs/RULES.md, "What can be seen" and "Marks and zones": the refusals of the operations over a list of heights, in their order.
+-- n is the number of heights. Where such an operation fills a list, 14 comes behind these.
+use Prim.Native.Nat.{ℕ}
+use lib.Dec.{leb}
+use Rattle.terms.specs.Answers.{outside, listOutside, eyeOrObjectOutside, fault}
+use Rattle.terms.specs.Limits.{leastSpeed, greatestSpeed, firstDecision, lastPurpose, greatestFarthest}
+use Rattle.terms.specs.Refusals.{speedRefused, purposeRefused, heightRefused, listRefused, stationRefused, farthestRefused}
+use Rattle.terms.specs.declared.Verdict.{Verdict}
+use Rattle.terms.specs.declared.Verdict.the-variants.{Accepted}
+
+-- the heights of eye and object and the farthest distance: 17, 21
+unfoldable pub lookVerdict : ℕ → ℕ → ℕ → Verdict
+lookVerdict e o far =
+    fault (eyeOrObjectOutside e o) heightRefused
+    (fault (outside 1 greatestFarthest far) farthestRefused Accepted)
+
+-- sight from one station: 19, 20, 17, 21
+unfoldable pub sightVerdict : ℕ → ℕ → ℕ → ℕ → ℕ → Verdict
+sightVerdict n i e o far =
+    fault (listOutside n) listRefused
+    (fault (leb n i) stationRefused
+    (lookVerdict e o far))
+
+-- the sight profile: 19, 17, 21
+unfoldable pub profileVerdict : ℕ → ℕ → ℕ → ℕ → Verdict
+profileVerdict n e o far = fault (listOutside n) listRefused (lookVerdict e o far)
+
+-- marks: 6, 7, 19
+unfoldable pub marksVerdict : ℕ → ℕ → ℕ → Verdict
+marksVerdict speed purpose n =
+    fault (outside leastSpeed greatestSpeed speed) speedRefused
+    (fault (outside firstDecision lastPurpose purpose) purposeRefused
+    (fault (listOutside n) listRefused Accepted))
