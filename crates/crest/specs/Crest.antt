@@ -1,4 +1,4 @@
--- Document 01, "How long a crest must be".
+-- docs/RULES.md, "How long a crest must be".
 --
 -- A length L is adequate for a drop in grade a and a sight distance S, with Q = u + √v, when
 --   S ≤ L and L Q ≥ a S², or L < S and a (2 S − L) ≤ Q.

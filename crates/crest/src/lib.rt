@@ -1,8 +1,9 @@
-// Document 01, "How long a crest must be": the least even adequate length, by whole numbers alone.
+// docs/RULES.md, "How long a crest must be": the least even adequate length, by whole numbers alone.
 ghost use mathlib.Core.Path.{_≡_};
 ghost use Prim.Native.Nat.{_≤_, _+_, _*_, _/_};
 ghost use Rattle.crest.specs.Crest.{withinRoot, adequate, leastEven, crestLength};
-ghost use Rattle.terms.specs.Limits.{greatestDrop, greatestSightDistance, greatestHeight, greatestCrest};
+ghost use Rattle.crest.specs.Sizes.{Sized};
+ghost use Rattle.terms.specs.Limits.{greatestDrop, greatestSightDistance, greatestCrest};
 use terms::Answer;
 
 // Whether x − y ≤ √z. The largest x is a S² = 1,920,000,000, whose square is below 3.7 × 10^18.
@@ -20,7 +21,7 @@ fn within_root(x: u64, y: u64, z: u64) -> bool
 // Whether the length l is adequate for the drop a and the sight distance s, with Q = u + √v. The largest product is
 // l² v = 4,000,000 × 40,000,000,000 = 1.6 × 10^17.
 fn adequate(a: u64, s: u64, u: u64, v: u64, l: u64) -> bool
-    requires { ⌜ (a ≤ greatestDrop) × (s ≤ greatestSightDistance) × (u ≤ 4 * greatestHeight) × (v ≤ 16 * greatestHeight * greatestHeight) × (l ≤ greatestCrest) ⌝ }
+    requires { ⌜ Sized a s u v × (l ≤ greatestCrest) ⌝ }
     ensures { λ r. ⌜ r ≡ adequate a s u v l ⌝ }
 {
     if s <= l {
@@ -31,7 +32,7 @@ fn adequate(a: u64, s: u64, u: u64, v: u64, l: u64) -> bool
 
 // The least even adequate length from 0 to 2,000, by a binary search over half the length: about ten lengths are tested.
 fn least_even(a: u64, s: u64, u: u64, v: u64) -> Answer
-    requires { ⌜ (a ≤ greatestDrop) × (s ≤ greatestSightDistance) × (u ≤ 4 * greatestHeight) × (v ≤ 16 * greatestHeight * greatestHeight) ⌝ }
+    requires { ⌜ Sized a s u v ⌝ }
     ensures { λ r. ⌜ r ≡ leastEven (adequate a s u v) 0 (greatestCrest / 2 + 1) ⌝ }
 {
     let last = (terms::GREATEST_CREST / 2) as u64;

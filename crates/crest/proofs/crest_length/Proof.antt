@@ -70,7 +70,14 @@ mul-least-even-3 : tie.Need-mul-least-even-3
 mul-least-even-3 c = let r = in-range c in omega (arith, mul-le-mul (r .eye .1) (r .object .1))
 
 least-even-requires : tie.Need-least-even-requires
-least-even-requires c κs = let r = in-range c in omega (arith, mul-le-mul (r .eye .1) (r .object .1))
+least-even-requires c κs =
+    let r = in-range c in
+    record {
+      drop = r .drop .1;
+      sight = r .sight .1;
+      whole-part = omega (arith, r .eye .1, r .object .1);
+      under-root = omega (arith, mul-le-mul (r .eye .1) (r .object .1));
+    }
 
 returns-4 : tie.Need-returns-4
 returns-4 c = c .least-even .ensures ∙ sym (crest-length-in-range _ _ _ _ (in-range (c .before)))

@@ -84,7 +84,7 @@ mul-adequate : tie.Need-mul-adequate Inv-loop μ-loop
 mul-adequate c = search needs
 
 adequate-requires : tie.Need-adequate-requires Inv-loop μ-loop
-adequate-requires c κs = search needs
+adequate-requires c κs = (c .before .before .pre, omega arith)
 
 loop-less : tie.Need-loop-less Inv-loop μ-loop
 loop-less c = search needs

@@ -1,0 +1,11 @@
+-- How large the numbers of the rule are, for the products of the private functions. Private contracts alone cite it: nothing here
+-- need be believed.
+use Prim.Native.Nat.{ℕ, _*_, _≤_}
+use Rattle.terms.specs.Limits.{greatestDrop, greatestSightDistance, greatestHeight}
+
+-- the drop a, the sight distance s, and Q = u + √v
+pub record Sized (a s u v : ℕ) : Type 0 where
+  pub drop : a ≤ greatestDrop
+  pub sight : s ≤ greatestSightDistance
+  pub whole-part : u ≤ 4 * greatestHeight
+  pub under-root : v ≤ 16 * greatestHeight * greatestHeight
