@@ -1,5 +1,5 @@
 //! What the tests share: the second calculation that the proved functions are compared with, the comparing of lent lists,
-//! the lister, what is drawn of a road, generators of inputs and counts.
+//! the lister, the documents, what is drawn of a road, generators of inputs and counts.
 
 use exports::Refusal;
 
@@ -8,6 +8,7 @@ use crate::reference::Answer;
 pub mod drawn;
 pub mod lent;
 pub mod lister;
+pub mod pages;
 pub mod quick;
 pub mod random;
 pub mod reference;

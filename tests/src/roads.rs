@@ -1,10 +1,10 @@
-//! Document 01's example, and random roads and road files, good and faulty.
+//! The rules' example, and random roads and road files, good and faulty.
 
 use crate::random::Random;
 use crate::reference::file::bytes;
 use crate::reference::road::{Curve, Road};
 
-/// The road file of document 01's example for the lister.
+/// The road file of the rules' example for the lister.
 pub const EXAMPLE: [u8; 22] = [
     0x56, 0x43, 0x50, 0x01, 0x00, 0x14, 0x01, 0x2C, 0x01, 0x00, 0x00, 0x00, 0x00, 0xDC, 0x05, 0x01, 0x64, 0x00, 0x00,
     0x00, 0x24, 0xFA,

@@ -1,4 +1,4 @@
-//! Document 01, "Distances a driver needs".
+//! docs/RULES.md, "Distances a driver needs".
 
 use sight_tests::bare;
 use sight_tests::reference::distances::{level_distance, required_distance, up_to_five};

@@ -1,32 +1,17 @@
-//! What the documents show is what the lister prints, what they name is there, and the table of must-fail edits has
-//! them all.
+//! What the documents show is what the lister prints, what they name is there, no theorem that they claim can be deleted
+//! unseen, and the table of must-fail edits has them all.
 
 use std::collections::{BTreeMap, BTreeSet};
 use std::fs;
-use std::path::{Path, PathBuf};
+use std::path::PathBuf;
 
 use sight_tests::lister;
+use sight_tests::pages::{block, files, has_public, links, prose, quoted, root, text};
 use sight_tests::reference::listing::listing;
-
-fn root() -> PathBuf {
-    Path::new(env!("CARGO_MANIFEST_DIR")).parent().expect("the package stands in the repository").to_path_buf()
-}
-
-fn text(path: &str) -> String {
-    let path = root().join(path);
-    fs::read_to_string(&path).unwrap_or_else(|error| panic!("{}: {error}", path.display()))
-}
 
 /// The road file that the README shows.
 fn three_crests() -> Vec<u8> {
     fs::read(root().join("roads/three-crests.vcp")).expect("the road ships with the repository")
-}
-
-/// The block of a document that begins with a line, without that line.
-fn block<'a>(document: &'a str, first: &str) -> Vec<&'a str> {
-    let mut lines = document.lines().skip_while(|&line| line != first);
-    assert!(lines.next().is_some(), "no line {first:?}");
-    lines.take_while(|&line| line != "```").collect()
 }
 
 /// The listing of the README, whose lines have words behind two spaces, is what the lister prints for its road.
@@ -53,24 +38,6 @@ fn text_of_the_readme() {
     assert_eq!(shown, shipped.lines().skip(1).take(shown.len()).collect::<Vec<_>>());
 }
 
-/// A document without its blocks of code.
-fn prose(document: &str) -> String {
-    let parts: Vec<&str> = document.split("```").collect();
-    assert!(parts.len() % 2 == 1, "each block of code ends");
-    parts.into_iter().step_by(2).collect()
-}
-
-/// What stands between backquotes.
-fn quoted(text: &str) -> Vec<&str> {
-    text.split('`').skip(1).step_by(2).collect()
-}
-
-/// The files of a folder whose names end so.
-fn files(folder: &Path, ending: &str) -> Vec<PathBuf> {
-    let entries = fs::read_dir(folder).unwrap_or_else(|error| panic!("{}: {error}", folder.display())).flatten();
-    entries.map(|entry| entry.path()).filter(|path| path.extension().is_some_and(|own| own == ending)).collect()
-}
-
 /// Each link of the README and of the documents names something that is there. One to the network is not looked at.
 #[test]
 fn links_name_what_is_there() {
@@ -79,13 +46,83 @@ fn links_name_what_is_there() {
     let mut found = 0;
     for path in documents {
         let document = prose(&fs::read_to_string(&path).expect("a document is text"));
-        let links = document.split("](").skip(1).map(|rest| rest.split([')', '#']).next().unwrap_or_default());
-        for link in links.filter(|link| !link.contains("://")) {
-            assert!(path.with_file_name(link).exists(), "{} has a link to {link}", path.display());
+        for (_, link) in links(&document).into_iter().filter(|(_, link)| !link.contains("://")) {
+            let file = link.split('#').next().unwrap_or_default();
+            assert!(path.with_file_name(file).exists(), "{} has a link to {link}", path.display());
             found += 1;
         }
     }
     assert!(found > 15, "{found} links");
+}
+
+/// The laws that a text names between backquotes, each with its type where it is named too, as in `accuracy : AccuracyRule`. A
+/// law's name is of small words with hyphens between.
+fn laws(text: &str) -> Vec<(&str, Option<&str>)> {
+    let named = quoted(text)
+        .into_iter()
+        .map(|name| name.split_once(" : ").map_or((name, None), |(law, kind)| (law, Some(kind))));
+    let of_words =
+        |law: &str| law.split('-').all(|word| !word.is_empty() && word.bytes().all(|byte| byte.is_ascii_lowercase()));
+    named.filter(|(law, kind)| of_words(law) && (law.contains('-') || kind.is_some())).collect()
+}
+
+/// The file of the repository that a document's link names.
+fn linked(document: &str, link: &str) -> String {
+    match document.starts_with("docs/") {
+        true => link.strip_prefix("../").expect("a path of the repository").to_string(),
+        false => link.to_string(),
+    }
+}
+
+/// Each law that these documents name is a public term of the file that its row names.
+#[test]
+fn laws_are_those_of_the_files() {
+    for (path, least) in [("README.md", 4), ("docs/ARCHITECTURE.md", 15)] {
+        let document = prose(&text(path));
+        let mut found = 0;
+        for line in document.lines() {
+            let proofs: Vec<String> = links(line)
+                .into_iter()
+                .filter(|(_, link)| link.contains("/proofs/"))
+                .map(|(_, link)| linked(path, link))
+                .collect();
+            for (law, _) in laws(line) {
+                assert!(line.starts_with('|') && proofs.len() == 1, "{path} names {law} and no file of it");
+                assert!(has_public(&text(&proofs[0]), law), "{law} in {}", proofs[0]);
+                found += 1;
+            }
+        }
+        assert!(found >= least, "{path} names {found} laws");
+    }
+}
+
+/// Each theorem that the README claims is a type in specs/ with one term, and an edit of that file that the check must refuse holds
+/// the term in place: without the term it would pass.
+#[test]
+fn theorems_are_held_in_place() {
+    let readme = prose(&text("README.md"));
+    let mut found = 0;
+    for line in readme.lines() {
+        for (law, kind) in laws(line).into_iter().filter_map(|(law, kind)| Some((law, kind?))) {
+            let file = |part: &str| {
+                let named = links(line).into_iter().map(|(_, link)| link).find(|link| link.contains(part));
+                named.unwrap_or_else(|| panic!("{law} has no file in {part}"))
+            };
+            let (statement, proof) = (file("/specs/"), file("/proofs/"));
+            assert!(has_public(&text(statement), kind), "{kind} in {statement}");
+            assert!(text(proof).lines().any(|own| own == format!("pub {law} : {kind}")), "{law} : {kind} in {proof}");
+            let (name, rest) =
+                statement.strip_prefix("crates/").and_then(|path| path.split_once('/')).expect("a crate's file");
+            let edits = files(&root().join("crates").join(name).join("must-fail"), "edit");
+            let of_statement = edits.iter().filter(|edit| {
+                let edit = fs::read_to_string(edit).expect("an edit is text");
+                edit.lines().any(|own| own == format!("file: {rest}"))
+            });
+            assert!(of_statement.count() >= 2, "{statement} has fewer than two edits");
+            found += 1;
+        }
+    }
+    assert!(found >= 4, "{found} theorems");
 }
 
 /// Each `crate::function` that these documents name is a public one of that crate.
@@ -102,23 +139,37 @@ fn functions_are_those_of_the_crates() {
     }
 }
 
+/// An edit as the table of wrong answers has it: its name, and what it changes.
+type Edit = (String, String);
+
 /// The table of wrong answers: each contract, such as `sight::profile`, with its edits. A row may have several contracts:
 /// those of a crate of exports share its edits; an empty first column stands for the contracts above.
-fn wrong_answers(table: &str) -> BTreeMap<String, Vec<String>> {
-    let names = |column: &str| quoted(column).into_iter().map(String::from).collect::<Vec<_>>();
-    let mut answers: BTreeMap<String, Vec<String>> = BTreeMap::new();
+fn wrong_answers(table: &str) -> BTreeMap<String, Vec<Edit>> {
+    let mut answers: BTreeMap<String, Vec<Edit>> = BTreeMap::new();
     let mut contracts = Vec::new();
     for line in table.lines().filter(|line| line.starts_with('|')) {
         let columns: Vec<&str> = line.split('|').collect();
-        let named = names(columns[1]);
+        let named = quoted(columns[1]);
         if !named.is_empty() {
             contracts = named;
         }
+        let edits = quoted(columns[2]).into_iter().map(|edit| (edit.to_string(), columns[3].trim().to_string()));
         for contract in &contracts {
-            answers.entry(contract.clone()).or_default().extend(names(columns[2]));
+            answers.entry(contract.to_string()).or_default().extend(edits.clone());
         }
     }
     answers
+}
+
+/// What an edit changes: code, a contract, or a definition (a statement is one).
+fn changes(edit: &str) -> &'static str {
+    let contract =
+        edit.lines().any(|line| line.starts_with("old:") && (line.contains("ensures") || line.contains("requires")));
+    match edit.lines().any(|line| line.starts_with("file: specs/")) {
+        true => "definition",
+        false if contract => "contract",
+        false => "code",
+    }
 }
 
 /// The crates, by their folders.
@@ -145,32 +196,33 @@ fn public_functions() -> BTreeSet<String> {
     functions
 }
 
-/// The table names each must-fail edit of each crate, and no other.
+/// The table names each must-fail edit of each crate, and no other, and says what it changes.
 #[test]
 fn every_edit_is_in_the_table() {
-    let mut there = BTreeSet::new();
+    let mut there = BTreeMap::new();
     for (name, folder) in crates() {
         let Ok(edits) = fs::read_dir(folder.join("must-fail")) else { continue };
         for edit in edits.flatten() {
             let label = edit.file_name().to_string_lossy().into_owned();
-            there.insert(format!("{name}/{}", label.strip_suffix(".edit").expect("an edit")));
+            let kind = changes(&fs::read_to_string(edit.path()).expect("an edit is text"));
+            there.insert(format!("{name}/{}", label.strip_suffix(".edit").expect("an edit")), kind.to_string());
         }
     }
-    let mut named = BTreeSet::new();
+    let mut named = BTreeMap::new();
     for (contract, edits) in wrong_answers(&text("docs/RULED-OUT.md")) {
         let name = contract.split([':', ' ']).next().unwrap_or_default();
-        named.extend(edits.into_iter().map(|edit| format!("{name}/{edit}")));
+        named.extend(edits.into_iter().map(|(edit, kind)| (format!("{name}/{edit}"), kind)));
     }
     assert_eq!(named, there);
 }
 
-/// Each public function has two wrong answers or more in the table.
+/// Each public function has two wrong answers or more in the table, by edits of code.
 #[test]
 fn every_contract_rules_out_two_answers() {
     let table = wrong_answers(&text("docs/RULED-OUT.md"));
     let functions = public_functions();
     for function in &functions {
-        let edits = table.get(function).map_or(0, Vec::len);
+        let edits = table.get(function).map_or(0, |edits| edits.iter().filter(|(_, kind)| kind == "code").count());
         assert!(edits >= 2, "{function} has {edits}");
     }
     assert!(functions.len() > 20, "{} public functions", functions.len());

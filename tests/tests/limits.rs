@@ -17,9 +17,17 @@ fn number(source: &str, name: &str) -> usize {
     constant(source, name).parse().expect("a number")
 }
 
+/// The stations of the longest road that is marked and listed.
+fn marked_stations() -> usize {
+    assert_eq!(constant(TERMS, "MARKED_STATIONS"), "GREATEST_MARKED_ROAD as usize + 1");
+    number(TERMS, "GREATEST_MARKED_ROAD") + 1
+}
+
 #[test]
 fn limits_of_the_exports() {
     assert_eq!(exports::GREATEST_LIST, number(TERMS, "GREATEST_LIST"));
+    assert_eq!(exports::ROAD_STATIONS, number(TERMS, "GREATEST_ROAD") + 1);
+    assert_eq!(exports::MARKED_STATIONS, marked_stations());
     assert_eq!(exports::GREATEST_FARTHEST as usize, number(TERMS, "GREATEST_FARTHEST"));
     assert_eq!(exports::EYE_HEIGHT as usize, number(TERMS, "EYE_HEIGHT"));
     assert_eq!(exports::OBJECT_HEIGHT as usize, number(TERMS, "OBJECT_HEIGHT"));
@@ -34,5 +42,5 @@ fn limits_of_the_exports() {
 
 #[test]
 fn limits_of_the_van() {
-    assert_eq!(vcp::MOST_STATIONS, number(TERMS, "GREATEST_LIST"));
+    assert_eq!(vcp::MOST_STATIONS, marked_stations());
 }

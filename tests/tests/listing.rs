@@ -1,4 +1,4 @@
-//! Document 01, "The lister": the program, from standard input to standard output.
+//! docs/RULES.md, "The lister": the program, from standard input to standard output.
 
 use sight_tests::lister;
 use sight_tests::random::Random;
@@ -14,7 +14,7 @@ fn compare(file: &[u8]) -> String {
     text
 }
 
-/// Document 01's example, byte by byte. It ships as a road file.
+/// The rules' example, byte by byte. It ships as a road file.
 #[test]
 fn example_of_document_01() {
     assert_eq!(*include_bytes!("../../roads/example.vcp"), EXAMPLE);

@@ -1,4 +1,4 @@
-//! Document 01, "Marks and zones": the marking of a road file.
+//! docs/RULES.md, "Marks and zones": the marking of a road file.
 
 use sight_tests::bare;
 use sight_tests::lent;

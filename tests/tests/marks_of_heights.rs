@@ -1,4 +1,4 @@
-//! Document 01, "Marks and zones": the marks of lent heights.
+//! docs/RULES.md, "Marks and zones": the marks of lent heights.
 
 use sight_tests::bare;
 use sight_tests::lent;

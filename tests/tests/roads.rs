@@ -1,4 +1,4 @@
-//! Document 01, "The road and its heights" and "Road file": heights are filled from a road file, and the file is
+//! docs/RULES.md, "The road and its heights" and "Road file": heights are filled from a road file, and the file is
 //! written again from its road.
 
 use sight_tests::bare;

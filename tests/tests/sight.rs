@@ -1,4 +1,4 @@
-//! Document 01, "What can be seen": sight over lent heights, over those of roads, and on the exact parabolas and
+//! docs/RULES.md, "What can be seen": sight over lent heights, over those of roads, and on the exact parabolas and
 //! straights.
 
 use sight_tests::bare;

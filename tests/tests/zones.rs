@@ -1,4 +1,4 @@
-//! Document 01, "Marks and zones": the zones of lent marks.
+//! docs/RULES.md, "Marks and zones": the zones of lent marks.
 
 use sight_tests::bare;
 use sight_tests::lent;

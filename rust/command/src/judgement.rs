@@ -1,6 +1,6 @@
 //! What the proved functions say of a road file, or of heights.
 
-use exports::{Refusal, GREATEST_LIST, GREATEST_LISTING, MOST_ENDS};
+use exports::{Refusal, GREATEST_LISTING, MARKED_STATIONS, MOST_ENDS};
 
 use crate::purpose;
 
@@ -25,7 +25,7 @@ impl Judgement {
     /// That of a road file, from its listing.
     pub fn of_road(file: &[u8]) -> Result<Judgement, Refusal> {
         let [_, purpose, ..] = roadtext::road_numbers(file)?.head;
-        let stations = exports::file_heights(file, &mut [0; GREATEST_LIST])?;
+        let stations = exports::file_heights(file, &mut [0; MARKED_STATIONS])?;
         let mut text = vec![0; GREATEST_LISTING];
         let bytes = exports::list_road_file(file, &mut text)?;
         let mut lines = text[..bytes as usize].split(|&byte| byte == b'\n');

@@ -85,7 +85,7 @@ fn same_as_the_lister() {
     }
 }
 
-/// Document 01's example, from a file and from standard input.
+/// The rules' example, from a file and from standard input.
 #[test]
 fn example_of_document_01() {
     let folder = folder("list_example");

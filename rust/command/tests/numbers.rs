@@ -107,7 +107,7 @@ fn crests_for_a_speed() {
     assert_eq!(answer(&["crest", "--drop", "6", "--speed", "131"]), Err(6));
 }
 
-/// Document 01's cases, and what is missing or too much.
+/// The rules' cases, and what is missing or too much.
 #[test]
 fn lines_of_a_crest() {
     let folder = folder("crest_lines");

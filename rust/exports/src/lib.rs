@@ -1,9 +1,9 @@
 //! The proved operations that the van does not call, safe to call from the command `vcp` and from the tests: the functions
 //! of the crates `sight_exports`, `marks_exports`, `file_exports` and `listing_exports`.
 //!
-//! Units are those of document 01: metres along the road, h-units (tenths of a millimetre) for heights, km/h.
+//! Units are those of docs/RULES.md: metres along the road, h-units (tenths of a millimetre) for heights, km/h.
 //!
-//! Each function takes any input and ends: it answers, or refuses by one of document 01's numbers, and a refusal leaves a
+//! Each function takes any input and ends: it answers, or refuses by one of the numbers of docs/RULES.md, and a refusal leaves a
 //! lent list as it was. A list that is filled has the answer as the number of places that were written; later ones stay.
 
 #![deny(missing_docs)]
@@ -16,8 +16,14 @@ pub const ENOUGH_BYTES: usize = 209;
 /// Bytes that hold any listing.
 pub const GREATEST_LISTING: usize = 280_092;
 
-/// The longest list of heights or marks: the stations of the longest road.
+/// The longest list of heights or marks.
 pub const GREATEST_LIST: usize = 8_001;
+
+/// The stations of the longest road.
+pub const ROAD_STATIONS: usize = 8_001;
+
+/// The stations of the longest road that is marked and listed.
+pub const MARKED_STATIONS: usize = 8_001;
 
 /// The farthest distance that is looked at, in metres.
 pub const GREATEST_FARTHEST: u32 = 8_000;
@@ -124,7 +130,7 @@ pub fn rewrite(file: &[u8], out: &mut [u8]) -> Result<u32, Refusal> {
     refusal::answer(unsafe { vcp_rewrite(file.as_ptr(), file.len(), out.as_mut_ptr(), out.len()) })
 }
 
-/// Reads a road file and fills the heights of its road, one a station. A list of [`GREATEST_LIST`] holds any road's.
+/// Reads a road file and fills the heights of its road, one a station. A list of [`ROAD_STATIONS`] holds any road's.
 ///
 /// # Errors
 /// Refused 1 to 13 as reading the file refuses it, then 14 if the list has fewer places than the road has stations.

@@ -1,4 +1,4 @@
-//! Document 01's refusals: why a proved function gives no answer.
+//! The refusals of docs/RULES.md: why a proved function gives no answer.
 
 #![forbid(unsafe_code)]
 #![deny(missing_docs)]
@@ -6,7 +6,7 @@
 use std::error::Error;
 use std::fmt;
 
-/// Why there is no answer: one of document 01's numbers, 1 to 23, with its reason in words.
+/// Why there is no answer: one of the numbers of docs/RULES.md, 1 to 23, with its reason in words.
 ///
 /// ```
 /// let refusal = refusal::answer(-6).unwrap_err();
@@ -46,7 +46,7 @@ const REASONS: [&str; 23] = [
 ];
 
 impl Refusal {
-    /// Document 01's number of the refusal.
+    /// The rules' number of the refusal.
     pub fn number(self) -> u32 {
         self.number
     }
@@ -54,7 +54,7 @@ impl Refusal {
     /// The reason in words.
     fn reason(self) -> &'static str {
         let place = (self.number as usize).wrapping_sub(1);
-        REASONS.get(place).copied().unwrap_or("document 01 does not name this number")
+        REASONS.get(place).copied().unwrap_or("the rules do not name this number")
     }
 }
 

@@ -13,7 +13,7 @@
 //! Stations and lengths along the road are whole metres, speeds whole km/h, grades hundredths of a percent, and heights
 //! h-units, which are tenths of a millimetre.
 //!
-//! Each function takes any input and ends: it answers, or refuses by one of document 01's numbers, and a refusal leaves a
+//! Each function takes any input and ends: it answers, or refuses by one of the numbers of docs/RULES.md, and a refusal leaves a
 //! lent list as it was. None keeps anything between two calls, so each may be called from many threads at once.
 
 #![deny(missing_docs)]
@@ -36,7 +36,7 @@ pub const STOPPING_NOT_JUDGED: u8 = 1 << 3;
 /// Bit 4 of a mark, letter d: the station is not judged for the decision, as the road ends too soon after it.
 pub const DECISION_NOT_JUDGED: u8 = 1 << 4;
 
-/// As many stations as a road can have: marks of this length have a place for each station of any road.
+/// As many stations as a road that is marked can have: marks of this length have a place for each station of any such road.
 pub const MOST_STATIONS: usize = 8_001;
 
 // A test compares these declarations with crates/van/src/lib.rt.

@@ -1,4 +1,4 @@
-//! Document 01, "How long a crest must be".
+//! docs/RULES.md, "How long a crest must be".
 
 use super::Answer;
 

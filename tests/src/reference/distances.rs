@@ -1,4 +1,4 @@
-//! Document 01, "Distances a driver needs", and source document 002, equation (1).
+//! docs/RULES.md, "Distances a driver needs", and source document 002, equation (1).
 
 use super::fraction::Fraction;
 use super::Answer;

@@ -1,4 +1,4 @@
-//! Document 01, "Road file".
+//! docs/RULES.md, "Road file".
 
 use super::road::{heights, verdict, Curve, Road};
 use super::Answer;

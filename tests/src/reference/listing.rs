@@ -1,4 +1,4 @@
-//! Document 01, "The lister".
+//! docs/RULES.md, "The lister".
 
 use super::distances::required_distance;
 use super::file::read;

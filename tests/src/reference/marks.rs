@@ -1,4 +1,4 @@
-//! Document 01, "Marks and zones".
+//! docs/RULES.md, "Marks and zones".
 
 use super::distances::required_distance;
 use super::file::read;

@@ -1,5 +1,5 @@
-//! The second calculation: the rules of document 01, one file for each of its sections, written from the paper's text
-//! in exact whole numbers and with no thought for speed.
+//! The second calculation: the rules, one file for each section of docs/RULES.md, written from their text in exact whole
+//! numbers and with no thought for speed.
 
 pub mod crest;
 pub mod distances;

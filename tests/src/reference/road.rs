@@ -1,4 +1,4 @@
-//! Document 01, "The road and its heights", and the refusals of a road handed over as a value.
+//! docs/RULES.md, "The road and its heights", and the refusals of a road handed over as a value.
 
 use super::fraction::Fraction;
 use super::Answer;
@@ -33,7 +33,7 @@ impl Curve {
     }
 }
 
-/// Refusals 4 and 6 to 13, in document 01's order.
+/// Refusals 4 and 6 to 13, in the rules' order.
 pub fn verdict(road: &Road) -> Result<(), u32> {
     let grade_in_range = |grade: i16| (-1_500..=1_500).contains(&grade);
     if road.curves.len() > 32 {

@@ -1,4 +1,4 @@
-//! Document 01, "What can be seen".
+//! docs/RULES.md, "What can be seen".
 
 use std::ops::{Add, Mul, RangeInclusive};
 

@@ -184,7 +184,7 @@ fn edges() {
     compare(&Road { speed: 30, ..roads::full(&mut Random::new(75)) });
 }
 
-/// Two pictures to the byte: the README's, which has curves, and that of document 01's example, which has a break.
+/// Two pictures to the byte: the README's, which has curves, and that of the rules' example, which has a break.
 #[test]
 fn pictures_that_were_looked_at() {
     let root = Path::new(env!("CARGO_MANIFEST_DIR")).join("../..");
