@@ -14,8 +14,10 @@ use mir.Val.{boolByte}
 use Rattle.terms.specs.Answers.{valueOrZero}
 use Rattle.terms.specs.Limits.{greatestList, greatestFarthest, eyeHeight, objectHeight}
 use Rattle.terms.proofs.Laws.{not-outside}
+use Rattle.verdicts.specs.Verdicts.{lookVerdict, sightVerdict}
 use Rattle.sight.specs.Sight.{availableSight}
 use Rattle.sight.specs.Operations.{sightAnswer}
+use Rattle.sight.proofs.Answers.{sight-number}
 use Rattle.sight.proofs.Reach.{sight-le-far, sight-min}
 use Rattle.marks.specs.Marks.{bit, judged, lacking, markOf}
 
@@ -111,13 +113,13 @@ module _ (list : List ℤ) (i : ℕ) where
   -- the value of a sight that is asked for in its ranges; up to 0 m, where asking is refused, there are none
   pub sight-value : (far : ℕ) → i < length list → length list ≤ greatestList → far ≤ greatestFarthest →
       valueOrZero (sightAnswer list i eyeHeight objectHeight far) ≡ markSight list i far
-  unfolding sightAnswer
+  unfolding sightAnswer sightVerdict lookVerdict
   sight-value zero l m n =
       simp (not-outside 1 greatestList (length list) (omega arith, m), lt-leb (length list) i l)
       (omega (arith, sight-le-far list i eyeHeight objectHeight 0))
   sight-value (suc k) l m n =
-      simp (
-        not-outside 1 greatestList (length list) (omega arith, m),
-        lt-leb (length list) i l,
-        not-outside 1 greatestFarthest (suc k) (omega arith, n),
-      )
+      rw (sight-number list i eyeHeight objectHeight (suc k) l m record {
+        eye = (omega arith, omega arith);
+        object = (omega arith, omega arith);
+        farthest = (omega arith, n);
+      })

@@ -1,3 +1,4 @@
+pub mod Answers
 pub mod Reach
 pub mod Seen
 pub mod Steepest

@@ -1,33 +1,22 @@
--- Document 01, "What can be seen", Sight from one station and Sight profile: the answers, and what the lent list holds at the
+-- docs/RULES.md, "What can be seen", Sight from one station and Sight profile: the answers, and what the lent list holds at the
 -- end.
 use Prim.Native.Nat.{ℕ}
 use mathlib.Core.List.{List}
-use lib.Dec.{leb}
 use lib.IntN.{ℤ}
 use lib.ListN.{length}
-use Rattle.terms.specs.Answers.{outside, listOutside, eyeOrObjectOutside, refuse, roomFor, written}
-use Rattle.terms.specs.Limits.{greatestFarthest}
-use Rattle.terms.specs.Refusals.{listRefused, stationRefused, heightRefused, farthestRefused}
+use Rattle.terms.specs.Answers.{unless, roomFor, written}
 use Rattle.terms.specs.declared.Answer.{Answer}
 use Rattle.terms.specs.declared.Answer.the-variants.{Number}
+use Rattle.verdicts.specs.Verdicts.{sightVerdict, profileVerdict}
 use Rattle.sight.specs.Sight.{availableSight}
 
 -- sight from one station: refused 19, 20, 17, 21
 unfoldable pub sightAnswer : List ℤ → ℕ → ℕ → ℕ → ℕ → Answer
-sightAnswer list i e o far =
-    refuse (listOutside (length list)) listRefused
-    (refuse (leb (length list) i) stationRefused
-    (refuse (eyeOrObjectOutside e o) heightRefused
-    (refuse (outside 1 greatestFarthest far) farthestRefused
-    (Number (availableSight list i e o far)))))
+sightAnswer list i e o far = unless (sightVerdict (length list) i e o far) (Number (availableSight list i e o far))
 
 -- the sight profile: refused 19, 17, 21, 14; else how many places are written, one for each station
 unfoldable pub profileAnswer : List ℤ → ℕ → ℕ → ℕ → List ℕ → Answer
-profileAnswer list e o far sights =
-    refuse (listOutside (length list)) listRefused
-    (refuse (eyeOrObjectOutside e o) heightRefused
-    (refuse (outside 1 greatestFarthest far) farthestRefused
-    (roomFor (length list) sights)))
+profileAnswer list e o far sights = unless (profileVerdict (length list) e o far) (roomFor (length list) sights)
 
 -- each station's place holds its own sight, later places stay; where it is refused all stay
 unfoldable pub profileList : List ℤ → ℕ → ℕ → ℕ → List ℕ → List ℕ

@@ -1,4 +1,4 @@
-// Document 01, "What can be seen": sight from one station, and the sight profile.
+// docs/RULES.md, "What can be seen": sight from one station, and the sight profile.
 ghost use mathlib.Core.Path.{_≡_};
 ghost use Prim.Native.Nat.{_+_, _-_, _<_, _≤_};
 ghost use lib.ListN.{length};
@@ -7,6 +7,7 @@ ghost use Rattle.whole.specs.Fill.{filled};
 ghost use Rattle.sight.specs.Sight.{heightAt, seen, reach, availableSight};
 ghost use Rattle.sight.specs.Operations.{sightAnswer, profileAnswer, profileList};
 use terms::Answer;
+use terms::Verdict;
 
 // How far from station `i` the object is seen, looking less than `end` metres ahead: the search is left at the first hidden
 // station.
@@ -60,20 +61,16 @@ fn available(heights: &[i32], i: usize, e: u32, o: u32, far: usize) -> usize
 pub fn sight(heights: &[i32], station: u32, eye: u32, object: u32, farthest: u32) -> Answer
     ensures { λ r. ⌜ r ≡ sightAnswer (now (heights .entry)) station eye object farthest ⌝ }
 {
-    if terms::list_outside(heights.len()) {
-        return Answer::Refused(terms::LIST_REFUSED);
+    if let Verdict::Fault(number) = verdicts::sight_verdict(
+        heights.len(),
+        station,
+        eye,
+        object,
+        farthest,
+    ) {
+        return Answer::Refused(number);
     }
-    let i = station as usize;
-    if heights.len() <= i {
-        return Answer::Refused(terms::STATION_REFUSED);
-    }
-    if terms::eye_or_object_outside(eye, object) {
-        return Answer::Refused(terms::HEIGHT_REFUSED);
-    }
-    if terms::outside(1, terms::GREATEST_FARTHEST, farthest) {
-        return Answer::Refused(terms::FARTHEST_REFUSED);
-    }
-    Answer::Number(available(heights, i, eye, object, farthest as usize) as u32)
+    Answer::Number(available(heights, station as usize, eye, object, farthest as usize) as u32)
 }
 
 // Each station's sight, into the place of the station.
@@ -91,14 +88,13 @@ pub fn profile(heights: &[i32], eye: u32, object: u32, farthest: u32, sights: &m
     ensures answer { λ r. ⌜ r ≡ profileAnswer (now (heights .entry)) eye object farthest (now (sights .entry)) ⌝ }
     ensures list { λ _. ⌜ now (sights .exit) ≡ profileList (now (heights .entry)) eye object farthest (now (sights .entry)) ⌝ }
 {
-    if terms::list_outside(heights.len()) {
-        return Answer::Refused(terms::LIST_REFUSED);
-    }
-    if terms::eye_or_object_outside(eye, object) {
-        return Answer::Refused(terms::HEIGHT_REFUSED);
-    }
-    if terms::outside(1, terms::GREATEST_FARTHEST, farthest) {
-        return Answer::Refused(terms::FARTHEST_REFUSED);
+    if let Verdict::Fault(number) = verdicts::profile_verdict(
+        heights.len(),
+        eye,
+        object,
+        farthest,
+    ) {
+        return Answer::Refused(number);
     }
     if sights.len() < heights.len() {
         return Answer::Refused(terms::ROOM_REFUSED);
