@@ -1,6 +1,6 @@
--- The third demand, the accuracy rule (document 01, "What can be seen"): sight on a road's own heights lies between the
--- sight distances on the exact parabolas and straights with eye and object 1 h-unit lower and 1 h-unit higher. It speaks
--- of the definitions that the contracts of Heights, Sight from one station and Sight profile cite.
+-- The third demand, the accuracy rule (docs/RULES.md, "What can be seen"): the sight that is answered is the available sight over the
+-- road's own heights, and lies between the sight distances on the exact parabolas and straights with eye and object 1 h-unit lower
+-- and 1 h-unit higher. It speaks of the definitions that the contracts of Heights, Sight from one station and Sight profile cite.
 use Prim.Native.Nat.{ℕ, _+_, _-_, _≤_}
 use mathlib.Core.List.{List}
 use mathlib.Core.Path.{_≡_}
@@ -12,8 +12,9 @@ use Rattle.terms.specs.declared.Verdict.the-variants.{Accepted}
 use Rattle.road.specs.declared.Road.{Road}
 use Rattle.road.specs.Road.{roadVerdict}
 use Rattle.heights.specs.Heights.{heightsAnswer, heightsList}
+use Rattle.sight.specs.Sight.{availableSight}
 use Rattle.sight.specs.Operations.{sightAnswer, profileAnswer, profileList}
-use Rattle.accuracy.specs.ExactSight.{exactSight}
+use Rattle.exact.specs.ExactSight.{exactSight}
 
 -- what the rule says of a road, the lists lent for its heights and for its sights, a station, an eye and an object height
 -- and a farthest distance
@@ -26,6 +27,8 @@ pub record Accurate (r : Road) (list : List ℤ) (sights : List ℕ) (i e o far 
   -- Sight profile, over these heights, writes the same number for the station
   pub profile : profileAnswer (heightsList r list) e o far sights ≡ Number (r .length + 1)
   pub in-profile : getD (profileList (heightsList r list) e o far sights) i 0 ≡ sight
+  -- it is the available sight over these heights
+  pub available : sight ≡ availableSight (heightsList r list) i e o far
   -- it is at least the sight distance on the exact parabolas and straights with e − 1 and o − 1, also where that makes 0
   pub at-least : exactSight r i (e - 1) (o - 1) far ≤ sight
   -- and at most that with e + 1 and o + 1, also where that makes 50,001

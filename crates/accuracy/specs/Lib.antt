@@ -1,2 +1,1 @@
-pub mod ExactSight
 pub mod Accuracy

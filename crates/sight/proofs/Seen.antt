@@ -1,4 +1,4 @@
--- What the test `seen` tells: the inequality of document 01 at every station strictly between.
+-- What the test `seen` tells: the inequality of the rules at every station strictly between.
 use mathlib.Core.Path.{_≡_}
 use mathlib.Core.Bool.{Bool}
 use mathlib.Core.Logic.{⊎-elim}

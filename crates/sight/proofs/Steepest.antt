@@ -38,7 +38,7 @@ slope-raise a b o k n f =
     let v = var b in
     ≤ℤ-trans f (*ℤ-mono k {x = b} {y = b +ℤ pos o} (le-by (search reps) (search reps) (omega arith)))
 
--- document 01's inequality says of an eye x high, an object o on a road y high and a station z high between them that the
+-- the inequality of the rules says of an eye x high, an object o on a road y high and a station z high between them that the
 -- line to the station is no steeper than the line to the object
 module _ (x y z o : ℤ) (a b n : ℕ) (e : n ≡ a + b) where
   clears-by-slope : NoSteeper (z -ℤ x) b (y -ℤ x +ℤ o) n → (z *ℤ pos n) ≤ℤ (x *ℤ pos a +ℤ (y +ℤ o) *ℤ pos b)

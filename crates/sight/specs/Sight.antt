@@ -1,5 +1,5 @@
 -- docs/RULES.md, "What can be seen": seen, and the available sight, over any heights. `everyBetween` and `sightFrom` ask for no kind
--- of heights: the sight on exact ones (crates/accuracy/specs/ExactSight.antt) is made of them too.
+-- of heights: the sight on exact ones (crates/exact/specs/ExactSight.antt) is made of them too.
 use Prim.Native.Nat.{ℕ, zero, suc, _+_, _-_, min}
 use mathlib.Core.Bool.{Bool, true, cond, _&&_}
 use mathlib.Core.List.{List}

@@ -1,4 +1,4 @@
--- Document 01, "What can be seen": the sight distance on the exact parabolas and straights. It is the available sight by the
+-- docs/RULES.md, "What can be seen": the sight distance on the exact parabolas and straights. It is the available sight by the
 -- same definition, with the exact heights of all stations 0 to N, as fractions, in place of the stored ones.
 use Prim.Native.Nat.{ℕ, _-_}
 use mathlib.Core.Bool.{Bool}
@@ -15,6 +15,10 @@ clearsExactly h e o i j k = leF (h k *F (j - i)) (raised (h i) e *F (j - k) +F r
 unfoldable pub seenExactly : (ℕ → Frac) → ℕ → ℕ → ℕ → ℕ → Bool
 seenExactly h e o i j = everyBetween i j (clearsExactly h e o i j)
 
--- the sight on the exact profile from station i; the last station is N
+-- the sight from station i, over any exact heights of stations 0 to last
+unfoldable pub exactSightOver : (ℕ → Frac) → ℕ → ℕ → ℕ → ℕ → ℕ → ℕ
+exactSightOver h last i e o far = sightFrom i last far (seenExactly h e o i)
+
+-- the sight on the exact profile of a road; the last station is N
 unfoldable pub exactSight : Road → ℕ → ℕ → ℕ → ℕ → ℕ
-exactSight r i e o far = sightFrom i (r .length) far (seenExactly (exactHeight r) e o i)
+exactSight r i e o far = exactSightOver (exactHeight r) (r .length) i e o far
