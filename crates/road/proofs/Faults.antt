@@ -12,35 +12,35 @@ use Rattle.terms.proofs.Laws.{ByteFault, fault-byte, first-fault-byte}
 use Rattle.terms.specs.declared.Verdict.the-variants.{Accepted}
 use Rattle.road.specs.declared.Curve.{Curve}
 use Rattle.road.specs.declared.Road.{Road}
-use Rattle.road.specs.Road.{begin, end, gradeOutside, lengthOutside, placeOutside, curvesOf, curveVerdict, curvesVerdict, roadVerdict}
+use Rattle.road.specs.Road.{begin, end, startOf, gradeOutside, lengthOutside, placeOutside, curvesOf, curveVerdict, curvesVerdict, roadVerdict}
 use Rattle.road.proofs.Places.{next-curve}
 
 -- ---- the curves from a place on
 -- from place i on: the fault of the curve there; else as the curves after it say
-module _ (r : Road) (holds : r .count ≤ length (r .curves)) (n last : ℕ) where
+module _ (r : Road) (holds : r .count ≤ length (r .curves)) (n : ℕ) (before : Curve) where
   pub curves-verdict-step : (i : ℕ) (d : Curve) → i < r .count → let c = getD (r .curves) i d in
-      curvesVerdict n last (drop i (curvesOf r)) ≡ firstFault (curveVerdict n last c) (curvesVerdict n (end c) (drop (i + 1) (curvesOf r)))
+      curvesVerdict n before (drop i (curvesOf r)) ≡ firstFault (curveVerdict n before c) (curvesVerdict n c (drop (i + 1) (curvesOf r)))
   unfolding curvesVerdict
   curves-verdict-step i d h = rw (next-curve r i d holds h)
 
-  pub curves-verdict-end : curvesVerdict n last (drop (r .count) (curvesOf r)) ≡ Accepted
+  pub curves-verdict-end : curvesVerdict n before (drop (r .count) (curvesOf r)) ≡ Accepted
   unfolding curvesVerdict
   curves-verdict-end = rw (rw (length-take-le (r .count) (r .curves) holds) at (drop-length (curvesOf r)))
 
 -- ---- every fault's number is a byte
-curve-verdict-byte : (n last : ℕ) (c : Curve) → ByteFault (curveVerdict n last c)
+curve-verdict-byte : (n : ℕ) (before c : Curve) → ByteFault (curveVerdict n before c)
 unfolding curveVerdict
-curve-verdict-byte n last c =
+curve-verdict-byte n before c =
     fault-byte (gradeOutside (c .«grade_out»)) _ _ (omega arith)
     (fault-byte (lengthOutside c) _ _ (omega arith)
     (fault-byte (placeOutside n c) _ _ (omega arith)
-    (fault-byte (ltb (begin c) last) _ _ (omega arith) tt)))
+    (fault-byte (ltb (begin c) (end before)) _ _ (omega arith) tt)))
 
-curves-verdict-byte : (n last : ℕ) (cs : List Curve) → ByteFault (curvesVerdict n last cs)
+curves-verdict-byte : (n : ℕ) (before : Curve) (cs : List Curve) → ByteFault (curvesVerdict n before cs)
 unfolding curvesVerdict
-curves-verdict-byte n last [] = tt
-curves-verdict-byte n last (c ∷ cs) =
-    first-fault-byte (curveVerdict n last c) (curvesVerdict n (end c) cs) (curve-verdict-byte n last c) (curves-verdict-byte n (end c) cs)
+curves-verdict-byte n before [] = tt
+curves-verdict-byte n before (c ∷ cs) =
+    first-fault-byte (curveVerdict n before c) (curvesVerdict n c cs) (curve-verdict-byte n before c) (curves-verdict-byte n c cs)
 
 pub road-verdict-byte : (r : Road) → ByteFault (roadVerdict r)
 unfolding roadVerdict
@@ -51,4 +51,4 @@ road-verdict-byte r =
     (fault-byte (outside 1 greatestRoad (r .length)) _ _ (omega arith)
     (fault-byte (outsideℤ lowestStart highestStart (r .«start_height»)) _ _ (omega arith)
     (fault-byte (gradeOutside (r .«first_grade»)) _ _ (omega arith)
-    (curves-verdict-byte (r .length) 0 (curvesOf r)))))))
+    (curves-verdict-byte (r .length) (startOf r) (curvesOf r)))))))

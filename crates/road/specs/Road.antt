@@ -1,4 +1,4 @@
--- Document 01, "The road and its heights" and "Road file": when a road handed over as a value is accepted. The refusals are
+-- docs/RULES.md, "The road and its heights" and "Road file": when a road handed over as a value is accepted. The refusals are
 -- 4, then 6 to 13; the lowest curve with a fault decides.
 use Prim.Native.Nat.{ℕ, _+_, _-_, _/_, _%_}
 use mathlib.Core.Bool.{Bool, not, _||_}
@@ -44,20 +44,24 @@ lengthOutside c = not (eqb (c .length % 2) 0) || ltb greatestCurve (c .length)
 abbrev pub placeOutside : ℕ → Curve → Bool
 placeOutside n c = ltb (c .pvi) (half c) || ltb n (end c)
 
--- one curve of a road of length n, the curve listed just before it ending at last: 10, 11, 12, 13
-unfoldable pub curveVerdict : ℕ → ℕ → Curve → Verdict
-curveVerdict n last c =
+-- where a road starts: a break at station 0 whose grade out is the first grade
+abbrev pub startOf : Road → Curve
+startOf r = record { pvi = 0; length = 0; «grade_out» = r .«first_grade» }
+
+-- one curve of a road of length n, after the one listed just before it: 10, 11, 12, 13
+unfoldable pub curveVerdict : ℕ → Curve → Curve → Verdict
+curveVerdict n before c =
     fault (gradeOutside (c .«grade_out»)) gradeRefused
     (fault (lengthOutside c) curveLengthRefused
     (fault (placeOutside n c) curvePlaceRefused
-    (fault (ltb (begin c) last) curveOrderRefused Accepted)))
+    (fault (ltb (begin c) (end before)) curveOrderRefused Accepted)))
 
--- the curves in turn, each with the end of the one listed just before it; the lowest with a fault decides
-unfoldable pub curvesVerdict : ℕ → ℕ → List Curve → Verdict
-curvesVerdict n last [] = Accepted
-curvesVerdict n last (c ∷ cs) = firstFault (curveVerdict n last c) (curvesVerdict n (end c) cs)
+-- the curves in turn, each after the one listed just before it; the lowest with a fault decides
+unfoldable pub curvesVerdict : ℕ → Curve → List Curve → Verdict
+curvesVerdict n before [] = Accepted
+curvesVerdict n before (c ∷ cs) = firstFault (curveVerdict n before c) (curvesVerdict n c cs)
 
--- 4, 6, 7, 8, 9, 10, then the curves; the first has no curve before it, so last is station 0
+-- 4, 6, 7, 8, 9, 10, then the curves; the first comes after the road's start
 unfoldable pub roadVerdict : Road → Verdict
 roadVerdict r =
     fault (ltb greatestCurveCount (r .count)) curveCountRefused
@@ -66,4 +70,4 @@ roadVerdict r =
     (fault (outside 1 greatestRoad (r .length)) roadLengthRefused
     (fault (outsideℤ lowestStart highestStart (r .«start_height»)) startRefused
     (fault (gradeOutside (r .«first_grade»)) gradeRefused
-    (curvesVerdict (r .length) 0 (curvesOf r)))))))
+    (curvesVerdict (r .length) (startOf r) (curvesOf r)))))))

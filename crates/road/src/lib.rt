@@ -1,9 +1,9 @@
-// Document 01, "The road and its heights" and "Road file": a road as a value, and its refusals.
+// docs/RULES.md, "The road and its heights" and "Road file": a road as a value, and its refusals.
 ghost use Prim.Native.Nat.{_≤_};
 ghost use mathlib.Core.Path.{_≡_};
 ghost use Rattle.terms.specs.Answers.{firstFault};
 ghost use Rattle.terms.specs.Limits.{greatestCurveCount};
-ghost use Rattle.road.specs.Road.{half, begin, end, gradeOutside, curvesOf, curveVerdict, curvesVerdict, roadVerdict};
+ghost use Rattle.road.specs.Road.{half, begin, end, startOf, gradeOutside, curvesOf, curveVerdict, curvesVerdict, roadVerdict};
 use terms::Verdict;
 
 // A curve: the station where its two straights meet (PVI), its length in metres, and its grade out.
@@ -38,7 +38,7 @@ fn grade_outside(grade: i16) -> bool
 // Refusals 6 to 10 of a road's own numbers, the curves left out.
 fn numbers_verdict(road: Road) -> Verdict
     requires { ⌜ road .count ≤ greatestCurveCount ⌝ }
-    ensures { λ r. ⌜ roadVerdict road ≡ firstFault r (curvesVerdict (road .length) 0 (curvesOf road)) ⌝ }
+    ensures { λ r. ⌜ roadVerdict road ≡ firstFault r (curvesVerdict (road .length) (startOf road) (curvesOf road)) ⌝ }
 {
     let speed = road.speed as u32;
     if terms::outside(terms::LEAST_SPEED, terms::GREATEST_SPEED, speed) {
@@ -62,24 +62,35 @@ fn numbers_verdict(road: Road) -> Verdict
     Verdict::Accepted
 }
 
-// Where a curve begins that does not begin before station 0.
-fn begin_of(c: Curve) -> u64
-    requires { ⌜ half c ≤ c .pvi ⌝ }
+// Half a curve's length, rounded down.
+fn half_of(c: Curve) -> u32
+    ensures { λ r. ⌜ r ≡ half c ⌝ }
+{
+    (c.length / 2) as u32
+}
+
+// Where a curve begins; one that reaches before station 0 begins there.
+pub fn begin_of(c: Curve) -> u64
     ensures { λ r. ⌜ r ≡ begin c ⌝ }
 {
-    c.pvi as u64 - (c.length / 2) as u64
+    let half = half_of(c);
+    if c.pvi < half {
+        return 0;
+    }
+    c.pvi as u64 - half as u64
 }
 
 // Where a curve ends. The sum fits, whatever the fields hold.
-fn end_of(c: Curve) -> u64
+pub fn end_of(c: Curve) -> u64
     ensures { λ r. ⌜ r ≡ end c ⌝ }
 {
-    c.pvi as u64 + (c.length / 2) as u64
+    let half = half_of(c);
+    c.pvi as u64 + half as u64
 }
 
-// Refusals 10 to 13 of one curve of a road of length `n`, the curve listed just before it ending at `last`.
-fn curve_verdict(c: Curve, n: u32, last: u64) -> Verdict
-    ensures { λ r. ⌜ r ≡ curveVerdict n last c ⌝ }
+// Refusals 10 to 13 of one curve of a road of length `n`, after the curve listed just before it.
+fn curve_verdict(before: Curve, c: Curve, n: u32) -> Verdict
+    ensures { λ r. ⌜ r ≡ curveVerdict n before c ⌝ }
 {
     let grade = c.grade_out;
     if grade_outside(grade) {
@@ -89,32 +100,35 @@ fn curve_verdict(c: Curve, n: u32, last: u64) -> Verdict
     if (length % 2 != 0) | (terms::GREATEST_CURVE < length) {
         return Verdict::Fault(terms::CURVE_LENGTH_REFUSED);
     }
-    let half = (length / 2) as u32;
-    if (c.pvi < half) | ((n as u64) < end_of(c)) {
+    if (c.pvi < half_of(c)) | ((n as u64) < end_of(c)) {
         return Verdict::Fault(terms::CURVE_PLACE_REFUSED);
     }
-    if begin_of(c) < last {
+    if begin_of(c) < end_of(before) {
         return Verdict::Fault(terms::CURVE_ORDER_REFUSED);
     }
     Verdict::Accepted
 }
 
-// The curves in use in turn, each with the end of the one listed just before it; the lowest with a fault decides.
+// The curves in use in turn, each after the one listed just before it; the lowest with a fault decides.
 fn curves_verdict(road: Road) -> Verdict
     requires { ⌜ road .count ≤ greatestCurveCount ⌝ }
-    ensures { λ r. ⌜ r ≡ curvesVerdict (road .length) 0 (curvesOf road) ⌝ }
+    ensures { λ r. ⌜ r ≡ curvesVerdict (road .length) (startOf road) (curvesOf road) ⌝ }
 {
     let count = road.count as usize;
     let n = road.length;
-    let mut last: u64 = 0;
+    let mut before = Curve {
+        pvi: 0,
+        length: 0,
+        grade_out: road.first_grade,
+    };
     let mut i: usize = 0;
     while i < count {
         let c = road.curves[i];
-        let v = curve_verdict(c, n, last);
+        let v = curve_verdict(before, c, n);
         if let Verdict::Fault(_) = v {
             return v;
         }
-        last = end_of(c);
+        before = c;
         i += 1;
     }
     Verdict::Accepted

@@ -1,7 +1,7 @@
 -- The road in the bytes of an accepted road is that road: each of its numbers fits its place, so its bytes give it back.
 use mathlib.Core.Path.{_≡_, refl, sym, ap, _∙_}
-use mathlib.Core.List.{List, [], _∷_}
-use Prim.Native.Nat.{ℕ, zero, suc, _+_, _/_, _%_, _≤_, _<_}
+use mathlib.Core.List.{List}
+use Prim.Native.Nat.{ℕ, _+_, _/_, _%_, _≤_, _<_}
 use native.Mathlib.Omega.{arith}
 use lib.IntN.{ℤ, pos, negℤ, natAbs}
 use lib.ListN.{length, getD, take, replicate, length-replicate}
@@ -14,12 +14,12 @@ use Rattle.whole.proofs.Fill.{filled-length, filled-at, filled-cong}
 use Rattle.whole.proofs.Machine.{plain}
 use Rattle.whole.proofs.Range.{fits-by, range-size}
 use Rattle.whole.proofs.Twos.{bits-below}
-use Rattle.terms.specs.Limits.{greatestCurveCount, greatestRoad, greatestGrade, lowestStart, highestStart}
+use Rattle.terms.specs.Limits.{greatestCurveCount, greatestGrade, lowestStart, highestStart}
 use Rattle.terms.specs.declared.Verdict.the-variants.{Accepted}
 use Rattle.road.specs.declared.Curve.{Curve}
 use Rattle.road.specs.declared.Road.{Road}
-use Rattle.road.specs.Road.{end, noCurve, curvesOf, curvesVerdict, roadVerdict}
-use Rattle.road.proofs.Accepted.{accepted-curves, accepted-road}
+use Rattle.road.specs.Road.{noCurve, curvesOf, roadVerdict}
+use Rattle.road.proofs.Accepted.{accepted-curve-at, accepted-road}
 use Rattle.file.specs.File.{byteAt, u16At, fileLength, curveAt, roadIn}
 use Rattle.writing.specs.Bytes.{headerBytes, curveBytes, fileBytes, SameRoad, cleared}
 use Rattle.writing.proofs.Bytes.{from-bytes2, from-bytes4, file-curve}
@@ -41,18 +41,6 @@ record FitsRecord (c : Curve) : Type 0 where
   size : c .length < 65536
   grade : SFits w16 (c .«grade_out»)
 
-fits-record : (n last : ℕ) (cs : List Curve) (i : ℕ) → n ≤ greatestRoad → curvesVerdict n last cs ≡ Accepted → i < length cs →
-    FitsRecord (getD cs i noCurve)
-fits-record n last [] i h e l = absurd (omega arith)
-fits-record n last (c ∷ cs) zero h e l =
-    let s = accepted-curves n last c cs e .0 in
-    record {
-      pvi = omega (arith, s .before-end);
-      size = omega (arith, s .short);
-      grade = grade-fits (c .«grade_out») (s .grade-low) (s .grade-high);
-    }
-fits-record n last (c ∷ cs) (suc i) h e l = fits-record n (end c) cs i h (accepted-curves n last c cs e .1) (omega arith)
-
 -- a curve is its three numbers
 curve-is : (c : Curve) (p l : ℕ) (g : ℤ) → p ≡ c .pvi → l ≡ c .length → g ≡ c .«grade_out» →
     record { pvi = p; length = l; «grade_out» = g } ≡ c
@@ -70,9 +58,12 @@ module _ (r : Road) (held : length (r .curves) ≡ greatestCurveCount) (accepted
 
   used-fits : (i : ℕ) → i < r .count → FitsRecord (getD (r .curves) i noCurve)
   used-fits i h =
-      let road = accepted-road r accepted in
-      let l = length-take-le (r .count) (r .curves) used in
-      rw (getD-take (r .count) (r .curves) i noCurve h) at (fits-record (r .length) 0 (curvesOf r) i (road .length-high) (road .curves) (omega arith))
+      let s = accepted-curve-at r accepted used i noCurve h in
+      record {
+        pvi = omega (arith, s .0 .before-end, accepted-road r accepted .length-high);
+        size = omega (arith, s .1 .short);
+        grade = grade-fits _ (s .1 .grade-low) (s .1 .grade-high);
+      }
 
   curve-back : (i : ℕ) → i < r .count → curveAt (fileBytes r) i ≡ getD (r .curves) i noCurve
   unfolding curveAt curveBytes

@@ -1,11 +1,15 @@
 -- `curve_verdict` meets its contract: each `return` rewrites the definition by the tests that led to it.
+use mathlib.Core.Bool.{_||_}
 use mathlib.Core.Path.{_≡_, sym, _∙_}
 use borrow.Author.Needs.{needs}
-use borrow.Author.Tests.{ltb-false, lt-ltb, le-ltb}
+use borrow.Author.Tests.{lt-ltb, le-ltb}
+use lib.Dec.{ltb}
 use mir.Syntax.{w16}
 use Rattle.whole.proofs.Machine.{got}
-use Rattle.terms.proofs.Laws.{neither-left}
-use Rattle.road.specs.Road.{gradeOutside, curveVerdict}
+use Rattle.terms.specs.Answers.{fault}
+use Rattle.terms.specs.Refusals.{curvePlaceRefused, curveOrderRefused}
+use Rattle.terms.specs.declared.Verdict.the-variants.{Accepted}
+use Rattle.road.specs.Road.{begin, end, gradeOutside, curveVerdict}
 use Rattle.road.proofs.curve_verdict.Statement.{statement}
 use Rattle.road.proofs.curve_verdict.Tie as tie
 
@@ -25,37 +29,45 @@ returns-2 c =
     let grade = c .before in
     simp (grade-tested (grade .before) ∙ grade .if1 .left, c .if2 .taken)
 
-cast-half : tie.Need-cast-half
-cast-half c = search needs
+half-of-requires : tie.Need-half-of-requires
+half-of-requires c κs = search needs
 
 end-of-requires : tie.Need-end-of-requires
 end-of-requires c κs = search needs
 
+-- the verdict past the tests of the grade and the length, with what the calls told of the place
+module _ (c : tie.After-end-of) where
+  abbrev begun : tie.Start
+  begun = c .before .before .before .before .before .before .before
+
+  past-length : let a = begun .args in
+      curveVerdict (a .n) (a .before) (a .c) ≡ fault (ltb (a .c .pvi) (c .before .before .half-of .result) || ltb (a .n) (c .end-of .result)) curvePlaceRefused
+      (fault (ltb (begin (a .c)) (end (a .before))) curveOrderRefused Accepted)
+  unfolding curveVerdict
+  past-length =
+      let size = c .before .before .before in let grade = size .before in
+      simp (grade-tested (grade .before) ∙ grade .if1 .left, size .if2 .left, c .before .before .half-of .ensures, c .end-of .ensures)
+
 returns-3 : tie.Need-returns-3
-unfolding curveVerdict
-returns-3 c =
-    let size = c .before .before .before in
-    let grade = size .before in
-    simp (grade-tested (grade .before) ∙ grade .if1 .left, size .if2 .left, rw (c .before .end-of .ensures) at (c .if3 .taken))
+returns-3 c = sym (past-length (c .before) ∙ simp (c .if3 .taken))
 
 begin-of-requires : tie.Need-begin-of-requires
-begin-of-requires c κs = ltb-false _ _ (neither-left _ _ (c .if3 .left))
+begin-of-requires c κs = search needs
+
+end-of-requires-2 : tie.Need-end-of-requires-2
+end-of-requires-2 c κs = search needs
 
 returns-4 : tie.Need-returns-4
-unfolding curveVerdict
 returns-4 c =
-    let place = c .before .before in
-    let size = place .before .before .before in
-    let grade = size .before in
-    simp (grade-tested (grade .before) ∙ grade .if1 .left, size .if2 .left, rw (place .before .end-of .ensures) at (place .if3 .left), lt-ltb _ _ (rw (c .before .begin-of .ensures) at (c .if4 .taken)))
+    let place = c .before .before .before in
+    let early = rw (c .before .before .begin-of .ensures, c .before .end-of2 .ensures) at (c .if4 .taken) in
+    sym (past-length (place .before) ∙ simp (place .if3 .left, lt-ltb _ _ early))
 
 returns-5 : tie.Need-returns-5
-unfolding curveVerdict
 returns-5 c =
-    let place = c .before .before in
-    let size = place .before .before .before in
-    let grade = size .before in
-    simp (grade-tested (grade .before) ∙ grade .if1 .left, size .if2 .left, rw (place .before .end-of .ensures) at (place .if3 .left), le-ltb _ _ (rw (c .before .begin-of .ensures) at (c .if4 .left)))
+    let place = c .before .before .before in
+    let ordered = rw (c .before .before .begin-of .ensures, c .before .end-of2 .ensures) at (c .if4 .left) in
+    sym (past-length (place .before) ∙ simp (place .if3 .left, le-ltb _ _ ordered))
 
 pub curve-verdict-spec : {M : Type 1} → statement M
 curve-verdict-spec =
@@ -64,9 +76,10 @@ curve-verdict-spec =
     grade-outside-requires
     returns
     returns-2
-    cast-half
+    half-of-requires
     end-of-requires
     returns-3
     begin-of-requires
+    end-of-requires-2
     returns-4
     returns-5)

@@ -1,6 +1,5 @@
 -- `numbers_verdict` meets its contract: each `return` rewrites the definition by the tests that led to it. A signed field is read
 -- as its bits, which give the number back since it fits.
-use mathlib.Core.Bool.{false}
 use mathlib.Core.Path.{_≡_, sym, _∙_}
 use borrow.Author.Needs.{needs}
 use borrow.Author.Tests.{le-ltb}
@@ -9,7 +8,8 @@ use Rattle.whole.proofs.Machine.{got}
 use Rattle.terms.specs.Answers.{outsideℤ, fault}
 use Rattle.terms.specs.Limits.{lowestStart, highestStart}
 use Rattle.terms.specs.Refusals.{startRefused, gradeRefused}
-use Rattle.road.specs.Road.{gradeOutside, curvesOf, curvesVerdict, roadVerdict}
+use Rattle.road.specs.declared.Road.{Road}
+use Rattle.road.specs.Road.{startOf, gradeOutside, curvesOf, curvesVerdict, roadVerdict}
 use Rattle.road.proofs.numbers_verdict.Statement.{statement}
 use Rattle.road.proofs.numbers_verdict.Tie as tie
 
@@ -54,46 +54,50 @@ returns-3 c =
       sym (c .before .outside3 .ensures) ∙ c .if3 .taken,
     )
 
--- the verdict past the test of the length
-past-length : (c : tie.Else3) →
-    let road = c .before .before .before .before .before .before .before .before .args .road in
-    roadVerdict road ≡ fault (outsideℤ lowestStart highestStart (road .«start_height»)) startRefused
-    (fault (gradeOutside (road .«first_grade»)) gradeRefused
-    (curvesVerdict (road .length) 0 (curvesOf road)))
-unfolding roadVerdict
-past-length c =
-    let purpose = c .before .before in
-    let speed = purpose .before .before .before in
-    simp (
-      le-ltb _ _ (speed .before .before .before .pre),
-      sym (speed .before .outside .ensures) ∙ speed .if1 .left,
-      sym (purpose .before .outside2 .ensures) ∙ purpose .if2 .left,
-      sym (c .before .outside3 .ensures) ∙ c .if3 .left,
-    )
+-- past the test of the length
+module _ (c : tie.Else3) where
+  abbrev purpose : tie.Else2
+  purpose = c .before .before
+
+  abbrev speed : tie.Else1
+  speed = purpose .before .before .before
+
+  abbrev given : Road
+  given = speed .before .before .before .args .road
+
+  past-length : roadVerdict given ≡ fault (outsideℤ lowestStart highestStart (given .«start_height»)) startRefused
+      (fault (gradeOutside (given .«first_grade»)) gradeRefused (curvesVerdict (given .length) (startOf given) (curvesOf given)))
+  unfolding roadVerdict
+  past-length =
+      simp (
+        le-ltb _ _ (speed .before .before .before .pre),
+        sym (speed .before .outside .ensures) ∙ speed .if1 .left,
+        sym (purpose .before .outside2 .ensures) ∙ purpose .if2 .left,
+        sym (c .before .outside3 .ensures) ∙ c .if3 .left,
+      )
 
 returns-4 : tie.Need-returns-4
 returns-4 c = past-length (c .before .before) ∙ simp (rw (got w32 _ (c .before .struct-told .given .1 .1 .1 .0 .1)) at (c .if4 .taken))
 
-start-passed : (c : tie.Else4) →
-    outsideℤ lowestStart highestStart (c .before .before .before .before .before .before .before .before .before .before .args .road .«start_height») ≡ false
-start-passed c = rw (got w32 _ (c .before .struct-told .given .1 .1 .1 .0 .1)) at (c .if4 .left)
-
 grade-outside-requires : tie.Need-grade-outside-requires
 grade-outside-requires c κs = search needs
 
-grade-tested : (c : tie.After-grade-outside) →
-    gradeOutside (c .before .before .before .before .before .before .before .before .before .before .before .before .args .road .«first_grade») ≡ c .grade-outside .result
-grade-tested c = sym (rw (got w16 _ (c .before .struct-told2 .given .1 .1 .1 .1 .0 .1)) at (c .grade-outside .ensures))
+-- past the test of the start height, with what the call told of the grade
+past-start : (c : tie.After-grade-outside) → let road = given (c .before .before .before .before) in
+    roadVerdict road ≡ fault (c .grade-outside .result) gradeRefused (curvesVerdict (road .length) (startOf road) (curvesOf road))
+past-start c =
+    let start = c .before .before in
+    past-length (start .before .before)
+    ∙ simp (
+      rw (got w32 _ (start .before .struct-told .given .1 .1 .1 .0 .1)) at (start .if4 .left),
+      sym (rw (got w16 _ (c .before .struct-told2 .given .1 .1 .1 .1 .0 .1)) at (c .grade-outside .ensures)),
+    )
 
 returns-5 : tie.Need-returns-5
-returns-5 c =
-    let start = c .before .before .before in
-    past-length (start .before .before) ∙ simp (start-passed start, grade-tested (c .before) ∙ c .if5 .taken)
+returns-5 c = past-start (c .before) ∙ simp (c .if5 .taken)
 
 returns-6 : tie.Need-returns-6
-returns-6 c =
-    let start = c .before .before .before in
-    past-length (start .before .before) ∙ simp (start-passed start, grade-tested (c .before) ∙ c .if5 .left)
+returns-6 c = past-start (c .before) ∙ simp (c .if5 .left)
 
 pub numbers-verdict-spec : {M : Type 1} → statement M
 numbers-verdict-spec =
