@@ -18,33 +18,40 @@ use Rattle.whole.proofs.Range.{Reads, knownR, add-size, neg-size, mul-size, ran
 use Rattle.terms.specs.Limits.{highestStart, greatestGrade, greatestRoad}
 use Rattle.road.specs.declared.Curve.{Curve}
 use Rattle.road.specs.Road.{begin, end, half}
-use Rattle.road.proofs.Accepted.{SoundCurve}
+use Rattle.road.specs.Order.{CurveInRange}
 use Rattle.heights.specs.declared.Walk.{Walk}
 use Rattle.heights.specs.Profile.{straight, onCurve, endHeight, exactFrom}
-use Rattle.heights.specs.Walk.{WalkInRange, CurveInRange, heightAlong, heightOver, exactAhead, along, past}
+use Rattle.heights.specs.Walk.{WalkInRange, CurveAhead, CurveHere, heightAlong, heightOver, exactAhead, along, past}
 
 -- ---- sizes
 -- how far from zero a walk on a road can stand
 abbrev heightBound : ℕ
 heightBound = natAbs highestStart + greatestGrade * greatestRoad
 
--- the grade and the height of a walk, and a curve's grade out, as it reads them
-abbrev pub grade-read : {at : Walk} → WalkInRange at → Reads (toZ w16 (ofZ w16 (at .grade))) (at .grade)
-grade-read {at} near = knownR w16 (at .grade) greatestGrade (near .grade-size)
+pub grade-out-size : {c : Curve} → CurveInRange c → natAbs (c .«grade_out») ≤ greatestGrade
+grade-out-size {c} r = range-size {a = greatestGrade} (c .«grade_out») (omega arith) (r .grade-low) (r .grade-high)
 
-abbrev pub height-read : {at : Walk} → WalkInRange at → at .station ≤ greatestRoad → Reads (toZ w32 (ofZ w32 (at .height))) (at .height)
-height-read {at} near l = knownR w32 (at .height) heightBound (omega (arith, near .height-size))
+-- the numbers of a walk, and the grade out of a curve, as they are read
+pub record WalkRead (at : Walk) : Type 0 where
+  pub grade : Reads (toZ w16 (ofZ w16 (at .grade))) (at .grade)
+  pub height : Reads (toZ w32 (ofZ w32 (at .height))) (at .height)
+
+abbrev pub walk-read : {at : Walk} → WalkInRange at → at .station ≤ greatestRoad → WalkRead at
+walk-read {at} w l = record {
+  grade = knownR w16 (at .grade) greatestGrade (w .grade-size);
+  height = knownR w32 (at .height) heightBound (omega (arith, w .height-size));
+}
 
 abbrev pub out-read : {c : Curve} → CurveInRange c → Reads (toZ w16 (ofZ w16 (c .«grade_out»))) (c .«grade_out»)
-out-read {c} mild = knownR w16 (c .«grade_out») greatestGrade (mild .grade-size)
+out-read {c} r = knownR w16 (c .«grade_out») greatestGrade (grade-out-size r)
 
 -- on along the straight
-pub near-along : (at : Walk) (x : ℕ) → WalkInRange at → at .station ≤ x → WalkInRange (along at x)
-near-along at x n l =
+pub walk-in-range-along : (at : Walk) (x : ℕ) → WalkInRange at → at .station ≤ x → WalkInRange (along at x)
+walk-in-range-along at x w l =
     let d = x - at .station in
-    let rise = mul-size (at .grade) (pos d) greatestGrade d (n .grade-size) (omega arith) in
-    let sum = add-size (at .height) (at .grade *ℤ pos d) _ _ (n .height-size) rise in
-    record { height-size = omega arith; grade-size = n .grade-size }
+    let rise = mul-size (at .grade) (pos d) greatestGrade d (w .grade-size) (omega arith) in
+    let sum = add-size (at .height) (at .grade *ℤ pos d) _ _ (w .height-size) rise in
+    record { height-size = omega arith; grade-size = w .grade-size }
 
 -- two walks are the same by their numbers
 pub walk-same : {x y : ℕ} {h k f g : ℤ} → x ≡ y → h ≡ k → f ≡ g →
@@ -91,33 +98,36 @@ pub exact-upto : (x₀ : ℕ) (z g : ℤ) (c : Curve) (cs : List Curve) (x : ℕ
 unfolding exactFrom
 exact-upto x₀ z g c cs x u = simp (le-leb _ _ u)
 
--- ---- past the curve
--- a curve without a fault
-pub sound-mild : {n last : ℕ} {c : Curve} → SoundCurve n last c → CurveInRange c
-sound-mild {c = c} s = record {
-  grade-size = range-size {a = greatestGrade} (c .«grade_out») (omega arith) (s .grade-low) (s .grade-high);
-  short = s .short;
-}
+-- ---- past a curve
+-- straight on to where it begins
+pub curve-here : {at : Walk} {c : Curve} → CurveAhead at c → CurveHere (along at (begin c)) c
+curve-here {at} {c} h =
+    let p = h .placed in
+    record {
+      walk = walk-in-range-along at (begin c) (h .walk) (p .ordered);
+      curve = h .curve;
+      here = omega (arith, p .even, p .from-zero);
+      on-road = p .before-end;
+    }
 
 -- the walk at its end
-pub near-past : (n : ℕ) (at : Walk) (c : Curve) → WalkInRange at → SoundCurve n (at .station) c → WalkInRange (past at c)
-near-past n at c near s =
-    let out = sound-mild s .grade-size in
-    let foot = near-along at (begin c) near (s .ordered) in
-    let turn = add-size (at .grade) (c .«grade_out») _ _ (near .grade-size) out in
+pub walk-in-range-past : (at : Walk) (c : Curve) → CurveAhead at c → WalkInRange (past at c)
+walk-in-range-past at c h =
+    let out = grade-out-size (h .curve) in
+    let foot = curve-here h .walk in
+    let turn = add-size (at .grade) (c .«grade_out») _ _ (h .walk .grade-size) out in
     let rise = mul-size (at .grade +ℤ c .«grade_out») (pos (half c)) (greatestGrade + greatestGrade) (half c) turn (omega arith) in
     let top = add-size (along at (begin c) .height) ((at .grade +ℤ c .«grade_out») *ℤ pos (half c)) _ _ (foot .height-size) rise in
-    record { height-size = omega (arith, s .from-zero); grade-size = out }
+    record { height-size = omega (arith, h .placed .from-zero); grade-size = out }
 
 -- the row along the straight and the row over the curve are the profile's up to the curve's end
-pub filled-past : (n : ℕ) (at foot : Walk) (c : Curve) (xs ys zs : List ℤ) → SoundCurve n (at .station) c → foot ≡ along at (begin c) →
+pub filled-past : (at foot : Walk) (c : Curve) (xs ys zs : List ℤ) → CurveAhead at c → foot ≡ along at (begin c) →
     ys ≡ filled (heightAlong at) (at .station + 1) (begin c - at .station) xs →
     zs ≡ filled (heightOver foot c) (foot .station + 1) (c .length) ys →
     zs ≡ filled (λ x. floor (exactAhead at (c ∷ []) x)) (at .station + 1) (end c - at .station) xs
-filled-past n at foot c xs ys zs s f p q =
+filled-past at foot c xs ys zs h f p q =
     let x₀ = at .station in let z = at .height in let g = at .grade in
-    let run : begin c + c .length ≡ end c = omega (arith, s .even, s .from-zero) in
-    let order : x₀ ≤ begin c = s .ordered in
+    let run = curve-here h .here in let order = h .placed .ordered in
     filled-then _ _ _ (x₀ + 1) (begin c - x₀) (begin c + 1) (c .length) (end c - x₀) xs ys zs p (rw f at q) (omega arith) (omega arith)
     (λ x l u. sym (floor-whole (straight z g (x - x₀))) ∙ ap floor (sym (exact-before x₀ z g c [] x (omega arith))))
     (λ x l u. ap floor (sym (exact-on x₀ z g c [] x (omega arith) (omega arith))))

@@ -15,26 +15,28 @@ use Rattle.whole.proofs.Fill.{filled-none, filled-next, filled-then}
 use Rattle.whole.proofs.Floor.{floor-whole}
 use Rattle.whole.proofs.Int.{var, reps, eq-by}
 use Rattle.whole.proofs.Range.{range-size}
+use Rattle.whole.proofs.Table.{Each}
 use Rattle.terms.specs.Limits.{lowestStart, greatestGrade, greatestRoad}
-use Rattle.terms.specs.declared.Verdict.the-variants.{Accepted}
 use Rattle.road.specs.declared.Curve.{Curve}
 use Rattle.road.specs.declared.Road.{Road}
-use Rattle.road.specs.Road.{begin, end, curvesOf, curveVerdict, curvesVerdict}
-use Rattle.road.proofs.Accepted.{SoundCurve, SoundRoad, accepted-curves, sound-curve}
+use Rattle.road.specs.Road.{begin, end, curvesOf}
+use Rattle.road.specs.Order.{Placed, InOrder, CurveInRange}
+use Rattle.road.proofs.Accepted.{SoundRoad}
 use Rattle.heights.specs.declared.Walk.{Walk}
 use Rattle.heights.specs.Profile.{straight, exactFrom, exactHeight, storedHeight}
-use Rattle.heights.specs.Walk.{WalkInRange, heightAlong, exactAhead, past}
-use Rattle.heights.proofs.Along.{exact-past, exact-upto, near-past}
+use Rattle.heights.specs.Walk.{WalkInRange, CurveAhead, heightAlong, exactAhead, past}
+use Rattle.heights.proofs.Along.{exact-past, exact-upto, walk-in-range-past}
 
 -- past i curves of the road the walk stands at the end of the last: the heights after station 0 are filled up to there, and from
--- there the exact profile and the verdict go on by the curves that are left
+-- there the exact profile goes on by the curves that are left, in order and in their ranges
 pub record Walked (r : Road) (i : ℕ) (at : Walk) (first list : List ℤ) : Type 0 where
   pub in-use : i ≤ r .count
   pub so-far : list ≡ filled (storedHeight r) 1 (at .station) first
   pub ahead : (x : ℕ) → at .station < x → exactHeight r x ≡ exactAhead at (drop i (curvesOf r)) x
-  pub accepted : curvesVerdict (r .length) (at .station) (drop i (curvesOf r)) ≡ Accepted
+  pub in-order : InOrder (r .length) (at .station) (drop i (curvesOf r))
+  pub in-range : Each CurveInRange (drop i (curvesOf r))
   pub on-road : at .station ≤ r .length
-  pub near : WalkInRange at
+  pub walk : WalkInRange at
 
 -- ---- the start
 -- no metre on, the height is the same
@@ -55,8 +57,8 @@ stored-start r =
 abbrev pub start : Road → Walk
 start r = record { station = 0; height = r .«start_height»; grade = r .«first_grade» }
 
-pub near-start : (r : Road) → SoundRoad r → WalkInRange (start r)
-near-start r s = record {
+pub walk-in-range-start : (r : Road) → SoundRoad r → WalkInRange (start r)
+walk-in-range-start r s = record {
   height-size = range-size {a = natAbs lowestStart} (r .«start_height») (omega arith) (s .start-low) (s .start-high);
   grade-size = range-size {a = greatestGrade} (r .«first_grade») (omega arith) (s .grade-low) (s .grade-high);
 }
@@ -67,41 +69,39 @@ walked-none r first s = record {
   in-use = omega arith;
   so-far = filled-none (storedHeight r) 1 first;
   ahead = λ x l. refl;
-  accepted = s .curves;
+  in-order = s .in-order;
+  in-range = s .in-range;
   on-road = omega arith;
-  near = near-start r s;
+  walk = walk-in-range-start r s;
 }
 
 -- ---- one curve more
-module _ (r : Road) (i : ℕ) (at : Walk) (c : Curve) (first list : List ℤ) (w : Walked r i at first list)
+module _ (r : Road) (i : ℕ) (at : Walk) (c : Curve) (first list : List ℤ) (w : Walked r i at first list) (long : r .length ≤ greatestRoad)
     (next : drop i (curvesOf r) ≡ c ∷ drop (i + 1) (curvesOf r)) where
-  next-accepted : SoundCurve (r .length) (at .station) c × (curvesVerdict (r .length) (end c) (drop (i + 1) (curvesOf r)) ≡ Accepted)
-  next-accepted = accepted-curves (r .length) (at .station) c _ (rw next at (w .accepted))
+  next-in-order : Placed (r .length) (at .station) c × InOrder (r .length) (end c) (drop (i + 1) (curvesOf r))
+  next-in-order = rw next at (w .in-order)
 
-  -- it is without a fault on the longest road too
-  pub next-sound : r .length ≤ greatestRoad → curveVerdict greatestRoad (at .station) c ≡ Accepted
-  next-sound l =
-      let s = next-accepted .0 in
-      sound-curve greatestRoad (at .station) c record {
-        grade-low = s .grade-low;
-        grade-high = s .grade-high;
-        even = s .even;
-        short = s .short;
-        from-zero = s .from-zero;
-        before-end = omega (arith, s .before-end);
-        ordered = s .ordered;
-      }
+  next-in-range : CurveInRange c × Each CurveInRange (drop (i + 1) (curvesOf r))
+  next-in-range = rw next at (w .in-range)
 
   pub next-on-road : end c ≤ r .length
-  next-on-road = next-accepted .0 .before-end
+  next-on-road = next-in-order .0 .before-end
+
+  pub next-ahead : CurveAhead at c
+  next-ahead =
+      let p = next-in-order .0 in
+      record {
+        walk = w .walk;
+        curve = next-in-range .0;
+        placed = record { even = p .even; from-zero = p .from-zero; before-end = omega arith; ordered = p .ordered };
+      }
 
   pub walked-more : (out : List ℤ) → i < r .count →
       out ≡ filled (λ x. floor (exactAhead at (c ∷ []) x)) (at .station + 1) (end c - at .station) list →
       Walked r (i + 1) (past at c) first out
   unfolding storedHeight
   walked-more out l e =
-      let s = next-accepted .0 in
-      let order : at .station ≤ end c = omega (arith, s .ordered) in
+      let order : at .station ≤ end c = omega (arith, next-in-order .0 .ordered) in
       record {
         in-use = omega arith;
         so-far =
@@ -109,9 +109,10 @@ module _ (r : Road) (i : ℕ) (at : Walk) (c : Curve) (first list : List ℤ) (w
             (w .so-far) e (omega arith) (omega arith) (λ x _ _. refl)
             (λ x l u. ap floor (sym (exact-upto _ _ _ c _ x (omega arith)) ∙ sym (rw next at (w .ahead x (omega arith)))));
         ahead = λ x l. (rw next at (w .ahead x (omega arith))) ∙ exact-past _ _ _ c _ x l;
-        accepted = next-accepted .1;
-        on-road = s .before-end;
-        near = near-past (r .length) at c (w .near) s;
+        in-order = next-in-order .1;
+        in-range = next-in-range .1;
+        on-road = next-on-road;
+        walk = walk-in-range-past at c next-ahead;
       }
 
 -- ---- the straight after the last

@@ -1,4 +1,4 @@
--- Document 01, "The road and its heights", Heights: the answer, and what the lent list holds at the end.
+-- docs/RULES.md, "The road and its heights", Heights: the answer, and what the lent list holds at the end.
 use Prim.Native.Nat.{_+_}
 use mathlib.Core.List.{List}
 use lib.IntN.{ℤ, pos}

@@ -1,4 +1,4 @@
--- Document 01, "The road and its heights": the exact profile, from the road's numbers alone. An exact height is a fraction
+-- docs/RULES.md, "The road and its heights": the exact profile, from the road's numbers alone. An exact height is a fraction
 -- of whole numbers, in h-units.
 use Prim.Native.Nat.{ℕ, _*_, _-_}
 use mathlib.Core.Bool.{cond}

@@ -2,12 +2,14 @@
 -- ahead of it. Private contracts alone cite it: nothing here need be believed.
 use Prim.Native.Nat.{ℕ, _+_, _-_, _*_, _≤_}
 use mathlib.Core.List.{List}
+use mathlib.Core.Path.{_≡_}
 use lib.IntN.{ℤ, natAbs}
 use Rattle.whole.specs.Floor.{floor}
 use Rattle.whole.specs.Fractions.{Frac}
-use Rattle.terms.specs.Limits.{highestStart, greatestGrade, greatestCurve}
+use Rattle.terms.specs.Limits.{highestStart, greatestGrade, greatestRoad}
 use Rattle.road.specs.declared.Curve.{Curve}
 use Rattle.road.specs.Road.{begin, end}
+use Rattle.road.specs.Order.{Placed, CurveInRange}
 use Rattle.heights.specs.declared.Walk.{Walk}
 use Rattle.heights.specs.Profile.{straight, onCurve, endHeight, exactFrom}
 
@@ -16,10 +18,24 @@ pub record WalkInRange (at : Walk) : Type 0 where
   pub height-size : natAbs (at .height) ≤ natAbs highestStart + greatestGrade * at .station
   pub grade-size : natAbs (at .grade) ≤ greatestGrade
 
--- a curve whose grade out and length are in their ranges
-pub record CurveInRange (c : Curve) : Type 0 where
-  pub grade-size : natAbs (c .«grade_out») ≤ greatestGrade
-  pub short : c .length ≤ greatestCurve
+-- station x lies ahead, on the road
+pub record StraightTo (at : Walk) (x : ℕ) : Type 0 where
+  pub walk : WalkInRange at
+  pub ahead : at .station ≤ x
+  pub on-road : x ≤ greatestRoad
+
+-- a curve lies ahead, on the road
+pub record CurveAhead (at : Walk) (c : Curve) : Type 0 where
+  pub walk : WalkInRange at
+  pub curve : CurveInRange c
+  pub placed : Placed greatestRoad (at .station) c
+
+-- a curve on the road begins here
+pub record CurveHere (at : Walk) (c : Curve) : Type 0 where
+  pub walk : WalkInRange at
+  pub curve : CurveInRange c
+  pub here : at .station + c .length ≡ end c
+  pub on-road : end c ≤ greatestRoad
 
 -- the height at station x: on along the straight; on a curve that begins here; with the curves cs ahead
 abbrev pub heightAlong : Walk → ℕ → ℤ

@@ -1,4 +1,4 @@
-// Document 01, "The road and its heights", Heights: the heights along a road, station by station.
+// docs/RULES.md, "The road and its heights", Heights: the heights along a road, station by station.
 ghost use Prim.Native.Nat.{_+_, _-_, _≤_, _<_};
 ghost use mathlib.Core.List.{[], _∷_};
 ghost use mathlib.Core.Path.{_≡_};
@@ -6,9 +6,9 @@ ghost use lib.ListN.{length};
 ghost use Rattle.whole.specs.Fill.{filled};
 ghost use Rattle.whole.specs.Floor.{floor};
 ghost use Rattle.terms.specs.Limits.{greatestRoad};
-ghost use Rattle.road.specs.Road.{begin, end, curveVerdict, roadVerdict};
+ghost use Rattle.road.specs.Road.{end, roadVerdict};
 ghost use Rattle.heights.specs.Profile.{straight, onCurve, storedHeight};
-ghost use Rattle.heights.specs.Walk.{WalkInRange, CurveInRange, heightAlong, heightOver, exactAhead, along, over, past};
+ghost use Rattle.heights.specs.Walk.{WalkInRange, StraightTo, CurveAhead, CurveHere, heightAlong, heightOver, exactAhead, along, over, past};
 ghost use Rattle.heights.specs.Heights.{heightsAnswer, heightsList};
 use road::Curve;
 use road::Road;
@@ -32,7 +32,7 @@ fn on_straight(at: Walk, d: u32) -> i32
 
 // The height `d` metres on along a curve that begins here, rounded down.
 fn on_curve(at: Walk, c: Curve, d: u32) -> i32
-    requires { ⌜ WalkInRange at × CurveInRange c × (0 < d) × (d ≤ c .length) × (at .station + d ≤ greatestRoad) ⌝ }
+    requires { ⌜ CurveHere at c × (0 < d) × (d ≤ c .length) ⌝ }
     ensures { λ r. ⌜ r ≡ floor (onCurve (at .height) (at .grade) (c .«grade_out») (c .length) d) ⌝ }
 {
     let x = d as i64;
@@ -43,7 +43,7 @@ fn on_curve(at: Walk, c: Curve, d: u32) -> i32
 
 // Fills the stations after this one up to `to`, along the straight.
 fn fill_straight(at: Walk, to: u32, list: &mut [i32])
-    requires { ⌜ WalkInRange at × (at .station ≤ to) × (to ≤ greatestRoad) × (to < length (now list)) ⌝ }
+    requires { ⌜ StraightTo at to × (to < length (now list)) ⌝ }
     ensures { λ _. ⌜ now (list .exit) ≡ filled (heightAlong at) (at .station + 1) (to - at .station) (now (list .entry)) ⌝ }
 {
     let from = at.station + 1;
@@ -57,7 +57,7 @@ fn fill_straight(at: Walk, to: u32, list: &mut [i32])
 
 // Fills the stations after this one up to the end of a curve that begins here.
 fn fill_curve(at: Walk, c: Curve, list: &mut [i32])
-    requires { ⌜ WalkInRange at × CurveInRange c × (at .station + c .length ≤ greatestRoad) × (at .station + c .length < length (now list)) ⌝ }
+    requires { ⌜ CurveHere at c × (end c < length (now list)) ⌝ }
     ensures { λ _. ⌜ now (list .exit) ≡ filled (heightOver at c) (at .station + 1) (c .length) (now (list .entry)) ⌝ }
 {
     let first = at.station + 1;
@@ -71,7 +71,7 @@ fn fill_curve(at: Walk, c: Curve, list: &mut [i32])
 
 // The walk at a station further on along the straight.
 fn walk_along(at: Walk, to: u32) -> Walk
-    requires { ⌜ WalkInRange at × (at .station ≤ to) × (to ≤ greatestRoad) ⌝ }
+    requires { ⌜ StraightTo at to ⌝ }
     ensures { λ r. ⌜ r ≡ along at to ⌝ }
 {
     Walk {
@@ -83,12 +83,12 @@ fn walk_along(at: Walk, to: u32) -> Walk
 
 // The walk at the end of a curve that begins here.
 fn walk_over(at: Walk, c: Curve) -> Walk
-    requires { ⌜ WalkInRange at × CurveInRange c × (end c ≤ greatestRoad) × (at .station ≤ greatestRoad) ⌝ }
+    requires { ⌜ CurveHere at c ⌝ }
     ensures { λ r. ⌜ r ≡ over at c ⌝ }
 {
     let half = c.length / 2;
     Walk {
-        station: c.pvi + half as u32,
+        station: road::end_of(c) as u32,
         height: at.height + (at.grade as i32 + c.grade_out as i32) * half as i32,
         grade: c.grade_out,
     }
@@ -96,11 +96,11 @@ fn walk_over(at: Walk, c: Curve) -> Walk
 
 // Fills the stations after this one up to the end of the next curve, and answers the walk there.
 fn past_curve(at: Walk, c: Curve, list: &mut [i32]) -> Walk
-    requires { ⌜ WalkInRange at × (curveVerdict greatestRoad (at .station) c ≡ Verdict.Accepted) × (end c < length (now list)) ⌝ }
+    requires { ⌜ CurveAhead at c × (end c < length (now list)) ⌝ }
     ensures { λ r. ⌜ r ≡ past at c ⌝ }
     ensures { λ _. ⌜ now (list .exit) ≡ filled (λ x. floor (exactAhead at (c ∷ []) x)) (at .station + 1) (end c - at .station) (now (list .entry)) ⌝ }
 {
-    let begin = c.pvi - (c.length / 2) as u32;
+    let begin = road::begin_of(c) as u32;
     fill_straight(at, begin, list);
     let foot = walk_along(at, begin);
     fill_curve(foot, c, list);

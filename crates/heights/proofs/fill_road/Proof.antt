@@ -6,15 +6,13 @@ use mathlib.Core.List.{_∷_}
 use borrow.Author.Needs.{needs}
 use native.Mathlib.Omega.{arith}
 use lib.ListN.{length, drop, getD, set, length-set}
-use mir.Syntax.{w16, w32}
-use mir.Val.{toZ, ofZ}
 use Rattle.whole.proofs.Fill.{filled-length}
 use Rattle.whole.proofs.Range.{same-by}
 use Rattle.road.specs.Road.{noCurve, curvesOf}
 use Rattle.road.proofs.Accepted.{SoundRoad, accepted-road}
 use Rattle.road.proofs.Places.{curve-places, next-curve}
-use Rattle.heights.proofs.Along.{grade-read, height-read}
-use Rattle.heights.proofs.Walked.{Walked, near-start, walked-none, next-sound, next-on-road, walked-more, walked-all}
+use Rattle.heights.proofs.Along.{WalkRead, walk-read}
+use Rattle.heights.proofs.Walked.{Walked, start, walk-in-range-start, walked-none, next-ahead, next-on-road, walked-more, walked-all}
 use Rattle.heights.proofs.fill_road.Statement.{statement}
 use Rattle.heights.proofs.fill_road.Tie as tie
 
@@ -32,11 +30,8 @@ module _ (s : tie.Start Inv-loop μ-loop) where
   in-places : s .args .t1 .count ≤ length (s .args .t1 .curves)
   in-places = omega (arith, curve-places (s .args .t1) _ (s .good .0), sound .count)
 
-  height : toZ w32 (ofZ w32 (s .args .t1 .«start_height»)) ≡ s .args .t1 .«start_height»
-  height = same-by (height-read (near-start (s .args .t1) sound) (omega arith)) tt
-
-  grade : toZ w16 (ofZ w16 (s .args .t1 .«first_grade»)) ≡ s .args .t1 .«first_grade»
-  grade = same-by (grade-read (near-start (s .args .t1) sound)) tt
+  abbrev read : WalkRead (start (s .args .t1))
+  read = walk-read (walk-in-range-start (s .args .t1) sound) (omega arith)
 
 -- what holds at the loop's head
 module _ (h : tie.At-loop Inv-loop μ-loop) where
@@ -64,7 +59,7 @@ cast-count c = search needs
 loop-holds : tie.Need-loop-holds Inv-loop μ-loop
 loop-holds c =
     let s = c .before .before .before in
-    rw (height s, grade s) (walked-none (s .args .t1) (set (s .args .list .now) 0 (s .args .t1 .«start_height»)) (sound s))
+    rw (same-by (read s .height) tt, same-by (read s .grade) tt) (walked-none (s .args .t1) (set (s .args .list .now) 0 (s .args .t1 .«start_height»)) (sound s))
 
 mul-past-curve : tie.Need-mul-past-curve Inv-loop μ-loop
 mul-past-curve c = search needs
@@ -75,7 +70,8 @@ element-copy-out-past-curve c = omega (arith, more c, sound (begun (c .before)) 
 past-curve-requires : tie.Need-past-curve-requires Inv-loop μ-loop
 past-curve-requires c κs =
     let t = c .before .before in let h = t .before in let w = h .loop .inv in let r = begun h .args .t1 in
-    (w .near, next-sound r _ _ _ _ _ w (next t) (sound (begun h) .length-high), omega (arith, next-on-road r _ _ _ _ _ w (next t), kept h))
+    let long = sound (begun h) .length-high in
+    (next-ahead r _ _ _ _ _ w long (next t), omega (arith, next-on-road r _ _ _ _ _ w long (next t), kept h))
 
 add-k : tie.Need-add-k Inv-loop μ-loop
 add-k c = search needs
@@ -87,12 +83,12 @@ loop-again : tie.Need-loop-again Inv-loop μ-loop
 loop-again c =
     let t = c .before .before .before .before in
     rw (c .before .past-curve .ensures .0)
-    (walked-more (begun (t .before) .args .t1) _ _ _ _ _ (t .before .loop .inv) (next t) _ (more t) (c .before .past-curve .ensures .1))
+    (walked-more (begun (t .before) .args .t1) _ _ _ _ _ (t .before .loop .inv) (sound (begun (t .before)) .length-high) (next t) _ (more t) (c .before .past-curve .ensures .1))
 
 fill-straight-requires : tie.Need-fill-straight-requires Inv-loop μ-loop
 fill-straight-requires c κs =
     let h = c .before .before in let s = begun h in
-    (h .loop .inv .near, h .loop .inv .on-road, sound s .length-high, omega (arith, kept h, s .pre .1))
+    (record { walk = h .loop .inv .walk; ahead = h .loop .inv .on-road; on-road = sound s .length-high }, omega (arith, kept h, s .pre .1))
 
 same-length : tie.Need-same-length Inv-loop μ-loop
 same-length c = c .before .fill-straight .kept .1 .1 .0 ∙ kept (c .before .before .before .before)
@@ -101,7 +97,7 @@ returns : tie.Need-returns Inv-loop μ-loop
 returns c =
     let h = c .before .before .before .before in let s = begun h in
     let all : h .loop .k ≡ s .args .t1 .count = omega (arith, h .loop .inv .in-use) in
-    walked-all (s .args .t1) _ (s .args .list .now) _ _ (in-places s) (rw (all, height s) at (h .loop .inv)) (c .before .fill-straight .ensures)
+    walked-all (s .args .t1) _ (s .args .list .now) _ _ (in-places s) (rw (all, same-by (read s .height) tt) at (h .loop .inv)) (c .before .fill-straight .ensures)
 
 pub fill-road-spec : {M : Type 1} → statement M
 fill-road-spec =

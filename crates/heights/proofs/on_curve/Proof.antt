@@ -6,58 +6,52 @@ use mathlib.Core.Path.{_≡_, refl, sym, ap, _∙_}
 use borrow.Author.Needs.{needs}
 use native.Mathlib.Omega.{arith}
 use lib.IntN.{pos, natAbs, _-ℤ_, _*ℤ_}
-use mir.Syntax.{w64}
-use mir.Val.{toZ}
+use mir.Syntax.{w16, w64}
+use mir.Val.{toZ, ofZ}
 use Rattle.whole.specs.Floor.{floorDiv}
 use Rattle.whole.proofs.Floor.{floorR}
-use Rattle.whole.proofs.Range.{Reads, mulB, natB, countR, mulR, fits-by, same-by, sizes}
+use Rattle.whole.proofs.Range.{Reads, natB, countR, mulR, fits-by, same-by, sizes}
 use Rattle.whole.proofs.Range.{reads as reading}
 use Rattle.terms.specs.Limits.{greatestGrade, greatestCurve}
-use Rattle.heights.proofs.Along.{grade-read, height-read, out-read, bend-size, curve-floor}
+use Rattle.heights.proofs.Along.{WalkRead, grade-out-size, walk-read, out-read, bend-size, curve-floor}
 use Rattle.heights.proofs.on_curve.Statement.{statement}
 use Rattle.heights.proofs.on_curve.Tie as tie
 
--- what is read
+-- what is read: the walk, the grade out, the metres and the divisor
 module _ (s : tie.Start) where
-  abbrev metres : Reads (toZ w64 (s .args .d)) (pos (s .args .d))
-  metres = countR w64 (s .args .d) greatestCurve (omega arith)
+  abbrev read : WalkRead (s .args .at)
+      × Reads (toZ w16 (ofZ w16 (s .args .c .«grade_out»))) (s .args .c .«grade_out»)
+      × Reads (toZ w64 (s .args .d)) (pos (s .args .d))
+  read = (walk-read (s .pre .0 .walk) (omega arith), out-read (s .pre .0 .curve), countR w64 (s .args .d) greatestCurve (omega arith))
 
-  abbrev run : Reads (toZ w64 (s .args .c .length)) (pos (s .args .c .length))
-  run = countR w64 (s .args .c .length) greatestCurve (omega arith)
+  abbrev divisor : Reads (pos 2 *ℤ toZ w64 (s .args .c .length)) (pos (2 * s .args .c .length))
+  divisor =
+      let two : Reads (pos 2) (pos 2) = record { size = natB 2 (omega arith); good = true; same = λ _. refl } in
+      mulR {y = pos (s .args .c .length)} two (countR w64 (s .args .c .length) greatestCurve (omega arith))
 
 cast-x : tie.Need-cast-x
 cast-x c = search needs
 
 cast-g : tie.Need-cast-g
-cast-g c = let g = grade-read (c .before .before .pre .0) .size in fits-by (search sizes depth 16) tt
+cast-g c = let r = read (c .before .before) in fits-by (search sizes depth 16) tt
 
 cast-floor-div : tie.Need-cast-floor-div
-cast-floor-div c = let o = out-read (c .before .before .before .before .pre .1) .size in fits-by (search sizes depth 16) tt
+cast-floor-div c = let r = read (c .before .before .before .before) in fits-by (search sizes depth 16) tt
 
 sub-floor-div : tie.Need-sub-floor-div
-sub-floor-div c =
-    let s = c .before .before .before .before in
-    let g = grade-read (s .pre .0) .size in let o = out-read (s .pre .1) .size in
-    fits-by (search sizes depth 16) tt
+sub-floor-div c = let r = read (c .before .before .before .before) in fits-by (search sizes depth 16) tt
 
 mul-floor-div : tie.Need-mul-floor-div
-mul-floor-div c =
-    let s = c .before .before .before .before in
-    let g = grade-read (s .pre .0) .size in let o = out-read (s .pre .1) .size in let d = metres s .size in
-    fits-by (search sizes depth 16) tt
+mul-floor-div c = let r = read (c .before .before .before .before) in fits-by (search sizes depth 16) tt
 
 mul-floor-div-2 : tie.Need-mul-floor-div-2
-mul-floor-div-2 c =
-    let s = c .before .before .before .before in
-    let g = grade-read (s .pre .0) .size in let o = out-read (s .pre .1) .size in let d = metres s .size in
-    fits-by (search sizes depth 16) tt
+mul-floor-div-2 c = let r = read (c .before .before .before .before) in fits-by (search sizes depth 16) tt
 
 cast-floor-div-2 : tie.Need-cast-floor-div-2
 cast-floor-div-2 c = search needs
 
 mul-floor-div-3 : tie.Need-mul-floor-div-3
-mul-floor-div-3 c =
-    fits-by (mulB (natB 2 (omega arith)) (run (c .before .before .before .before .before) .size)) tt
+mul-floor-div-3 c = fits-by (divisor (c .before .before .before .before .before) .size) tt
 
 floor-div-requires : tie.Need-floor-div-requires
 floor-div-requires c κs = search needs
@@ -69,58 +63,41 @@ module _ (f : tie.After-floor-div) where
 
   bend-is : f .floor-div .result ≡
       floorDiv ((start .args .c .«grade_out» -ℤ start .args .at .grade) *ℤ pos (start .args .d) *ℤ pos (start .args .d)) (pos (2 * start .args .c .length))
-  bend-is =
-      let g = grade-read (start .pre .0) in let o = out-read (start .pre .1) in let d = metres start in
-      let two : Reads (pos 2) (pos 2) = record { size = natB 2 (omega arith); good = true; same = λ _. refl } in
-      let r : Reads (pos 2 *ℤ toZ w64 (start .args .c .length)) (pos (2 * start .args .c .length)) = mulR {y = pos (start .args .c .length)} two (run start) in
-      f .floor-div .ensures ∙ same-by (search (reading, floorR) depth 20) tt
+  bend-is = let r = read start in let l = divisor start in f .floor-div .ensures ∙ same-by (search (reading, floorR) depth 20) tt
 
   abbrev bend : Reads (f .floor-div .result)
       (floorDiv ((start .args .c .«grade_out» -ℤ start .args .at .grade) *ℤ pos (start .args .d) *ℤ pos (start .args .d)) (pos (2 * start .args .c .length)))
   bend = record {
     size = record {
       b = greatestGrade * greatestCurve;
-      ok = omega (arith, bend-size (start .args .at .grade) (start .args .c .«grade_out») (start .args .c .length) (start .args .d) (start .pre .0 .grade-size) (start .pre .1 .grade-size) (omega arith), ap natAbs bend-is);
+      ok = omega (arith, bend-size (start .args .at .grade) (start .args .c .«grade_out») (start .args .c .length) (start .args .d) (start .pre .0 .walk .grade-size) (grade-out-size (start .pre .0 .curve)) (omega arith), ap natAbs bend-is);
     };
     good = true;
     same = λ _. bend-is;
   }
 
 cast-result : tie.Need-cast-result
-cast-result c =
-    let h = height-read (start (c .before .before) .pre .0) (omega arith) .size in
-    fits-by (search sizes depth 16) tt
+cast-result c = let r = read (start (c .before .before)) in fits-by (search sizes depth 16) tt
 
 mul-result : tie.Need-mul-result
-mul-result c =
-    let s = start (c .before .before) in let g = grade-read (s .pre .0) .size in let d = metres s .size in
-    fits-by (search sizes depth 16) tt
+mul-result c = let r = read (start (c .before .before)) in fits-by (search sizes depth 16) tt
 
 add-result : tie.Need-add-result
-add-result c =
-    let s = start (c .before .before) in
-    let h = height-read (s .pre .0) (omega arith) .size in let g = grade-read (s .pre .0) .size in let d = metres s .size in
-    fits-by (search sizes depth 16) tt
+add-result c = let r = read (start (c .before .before)) in fits-by (search sizes depth 16) tt
 
 add-result-2 : tie.Need-add-result-2
 add-result-2 c =
-    let s = start (c .before .before) in
-    let h = height-read (s .pre .0) (omega arith) .size in let g = grade-read (s .pre .0) .size in let d = metres s .size in
-    let b = bend (c .before .before) .size in
+    let r = read (start (c .before .before)) in let b = bend (c .before .before) in
     fits-by (search sizes depth 16) tt
 
 cast-result-2 : tie.Need-cast-result-2
 cast-result-2 c =
-    let s = start (c .before .before) in
-    let h = height-read (s .pre .0) (omega arith) .size in let g = grade-read (s .pre .0) .size in let d = metres s .size in
-    let b = bend (c .before .before) .size in
+    let r = read (start (c .before .before)) in let b = bend (c .before .before) in
     fits-by (search sizes depth 16) tt
 
 returns : tie.Need-returns
 returns c =
-    let s = start (c .before .before) in
-    let h = height-read (s .pre .0) (omega arith) in let g = grade-read (s .pre .0) in let d = metres s in
-    let b = bend (c .before .before) in
+    let s = start (c .before .before) in let r = read s in let b = bend (c .before .before) in
     same-by (search reading depth 20) tt
     ∙ sym (curve-floor (s .args .at .height) (s .args .at .grade) (s .args .c .«grade_out») (s .args .c .length) (s .args .d) (omega arith))
 

@@ -7,37 +7,28 @@ use mir.Val.{toZ}
 use Rattle.whole.proofs.Range.{Reads, countR, fits-by, same-by, sizes}
 use Rattle.whole.proofs.Range.{reads as reading}
 use Rattle.terms.specs.Limits.{greatestRoad}
-use Rattle.heights.proofs.Along.{grade-read, height-read}
+use Rattle.heights.proofs.Along.{WalkRead, walk-read}
 use Rattle.heights.proofs.on_straight.Statement.{statement}
 use Rattle.heights.proofs.on_straight.Tie as tie
 
--- what is read
-module _ (s : tie.Start) where
-  abbrev metres : Reads (toZ w32 (s .args .d)) (pos (s .args .d))
-  metres = countR w32 (s .args .d) greatestRoad (omega arith)
+-- what is read: the walk and the metres
+abbrev read : (s : tie.Start) → WalkRead (s .args .at) × Reads (toZ w32 (s .args .d)) (pos (s .args .d))
+read s = (walk-read (s .pre .0) (omega arith), countR w32 (s .args .d) greatestRoad (omega arith))
 
 cast-result : tie.Need-cast-result
-cast-result c = let g = grade-read (c .before .before .pre .0) .size in fits-by (search sizes depth 16) tt
+cast-result c = let r = read (c .before .before) in fits-by (search sizes depth 16) tt
 
 cast-result-2 : tie.Need-cast-result-2
 cast-result-2 c = search needs
 
 mul-result : tie.Need-mul-result
-mul-result c =
-    let s = c .before .before in let g = grade-read (s .pre .0) .size in let d = metres s .size in
-    fits-by (search sizes depth 16) tt
+mul-result c = let r = read (c .before .before) in fits-by (search sizes depth 16) tt
 
 add-result : tie.Need-add-result
-add-result c =
-    let s = c .before .before .before .before in
-    let g = grade-read (s .pre .0) .size in let h = height-read (s .pre .0) (omega arith) .size in let d = metres s .size in
-    fits-by (search sizes depth 16) tt
+add-result c = let r = read (c .before .before .before .before) in fits-by (search sizes depth 16) tt
 
 returns : tie.Need-returns
-returns c =
-    let s = c .before .before .before .before in
-    let g = grade-read (s .pre .0) in let h = height-read (s .pre .0) (omega arith) in let d = metres s in
-    same-by (search reading depth 20) tt
+returns c = let r = read (c .before .before .before .before) in same-by (search reading depth 20) tt
 
 pub on-straight-spec : {M : Type 1} → statement M
 on-straight-spec = tie.close (tie.spec cast-result cast-result-2 mul-result add-result returns)

@@ -1,80 +1,58 @@
 -- `heights::past_curve` meets its contract: the row along the straight and the row over the curve, end to end, are the exact
 -- profile's, rounded down (`filled-past`).
-use Prim.Native.Nat.{_+_, _≤_}
+use mathlib.Core.Path.{_≡_, sym, ap, subst, _∙_}
 use borrow.Author.Needs.{needs}
-use mathlib.Core.Path.{_≡_, ap, _∙_}
 use native.Mathlib.Omega.{arith}
-use Rattle.terms.specs.Limits.{greatestRoad}
-use Rattle.road.specs.Road.{begin, end}
-use Rattle.road.proofs.Accepted.{SoundCurve, accepted-curve}
+use Rattle.road.specs.Road.{begin}
 use Rattle.heights.specs.declared.Walk.{Walk}
-use Rattle.heights.specs.Walk.{WalkInRange, CurveInRange, over}
-use Rattle.heights.proofs.Along.{sound-mild, near-along, filled-past}
+use Rattle.heights.specs.Walk.{CurveHere, along, over}
+use Rattle.heights.proofs.Along.{curve-here, filled-past}
 use Rattle.heights.proofs.past_curve.Statement.{statement}
 use Rattle.heights.proofs.past_curve.Tie as tie
 
--- the curve: its begin lies ahead of the walk, and its end on the road
-module _ (s : tie.Start) where
-  sound : SoundCurve greatestRoad (s .args .at .station) (s .args .c)
-  sound = accepted-curve greatestRoad (s .args .at .station) (s .args .c) (s .pre .1)
-
-  mild : CurveInRange (s .args .c)
-  mild = sound-mild sound
-
-  run : begin (s .args .c) + s .args .c .length ≡ end (s .args .c)
-  run = omega (arith, sound .even, sound .from-zero)
-
-  on-road : begin (s .args .c) + s .args .c .length ≤ greatestRoad
-  on-road = omega (arith, run, sound .before-end)
+begin-of-requires : tie.Need-begin-of-requires
+begin-of-requires c κs = search needs
 
 cast-begin : tie.Need-cast-begin
 cast-begin c = search needs
 
-sub-begin : tie.Need-sub-begin
-sub-begin c = sound (c .before .before) .from-zero
-
 fill-straight-requires : tie.Need-fill-straight-requires
-fill-straight-requires c κs =
-    let s = c .before .before .before in
-    (s .pre .0, sound s .ordered, omega (arith, on-road s), omega (arith, run s))
+fill-straight-requires c κs = search needs
 
 walk-along-requires : tie.Need-walk-along-requires
-walk-along-requires c κs =
-    let s = c .before .before .before .before .before in
-    (s .pre .0, sound s .ordered, omega (arith, on-road s))
+walk-along-requires c κs = search needs
 
 -- the walk at the curve's begin
 module _ (c : tie.After-walk-along) where
-  abbrev start : tie.Start
-  start = c .before .before .before .before .before .before
+  abbrev begun : tie.Start
+  begun = c .before .before .before .before .before
 
-  foot-near : WalkInRange (c .walk-along .result)
-  foot-near = rw (c .walk-along .ensures) (near-along _ _ (start .pre .0) (sound start .ordered))
+  begin-is : c .before .before .before .before .begin-of .result ≡ begin (begun .args .c)
+  begin-is = c .before .before .before .before .begin-of .ensures
 
-  foot-at : c .walk-along .result .station ≡ begin (start .args .c)
-  foot-at = ap (λ (w : Walk). w .station) (c .walk-along .ensures)
+  foot-is : c .walk-along .result ≡ along (begun .args .at) (begin (begun .args .c))
+  foot-is = rw begin-is at (c .walk-along .ensures)
+
+  foot-here : CurveHere (c .walk-along .result) (begun .args .c)
+  foot-here = subst (λ (foot : Walk). CurveHere foot (begun .args .c)) (sym foot-is) (curve-here (begun .pre .0))
 
 fill-curve-requires : tie.Need-fill-curve-requires
 fill-curve-requires c κs =
-    let w = c .before in let s = start w in
     let kept = c .before .before .before .fill-straight .kept .1 .1 .0 in
-    (foot-near w, mild s, omega (arith, foot-at w, on-road s), omega (arith, foot-at w, run s))
+    (foot-here (c .before), omega (arith, begun (c .before) .pre .1))
 
 walk-over-requires : tie.Need-walk-over-requires
-walk-over-requires c κs =
-    let w = c .before .before .before in let s = start w in
-    (foot-near w, mild s, sound s .before-end, omega (arith, foot-at w, on-road s))
+walk-over-requires c κs = foot-here (c .before .before .before)
 
 same-length : tie.Need-same-length
 same-length c = search needs
 
 returns : tie.Need-returns
 returns c =
-    let w = c .before .before .before .before in let s = start w in let curve = s .args .c in (
-      c .walk-over .ensures ∙ ap (λ (foot : Walk). over foot curve) (w .walk-along .ensures),
-      filled-past greatestRoad (s .args .at) (w .walk-along .result) curve _ _ _ (sound s)
-          (w .walk-along .ensures)
-          (w .before .before .fill-straight .ensures)
+    let w = c .before .before .before .before in let s = begun w in let curve = s .args .c in (
+      c .walk-over .ensures ∙ ap (λ (foot : Walk). over foot curve) (foot-is w),
+      filled-past (s .args .at) (w .walk-along .result) curve _ _ _ (s .pre .0) (foot-is w)
+          (rw (begin-is w) at (w .before .before .fill-straight .ensures))
           (c .before .before .fill-curve .ensures),
     )
 
@@ -82,8 +60,8 @@ pub past-curve-spec : {M : Type 1} → statement M
 past-curve-spec =
     tie.close
     (tie.spec
+    begin-of-requires
     cast-begin
-    sub-begin
     fill-straight-requires
     walk-along-requires
     fill-curve-requires
