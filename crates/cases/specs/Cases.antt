@@ -1,18 +1,18 @@
--- The starred cases of document 01, in its order, with the acceptance of both roads and the height 0 at 100 beside them.
+-- The starred cases of docs/RULES.md, in its order, with the acceptance of both roads and the height 0 at 100 beside them.
 use mathlib.Core.Path.{_≡_}
 use mathlib.Core.List.{[], _∷_}
-use Prim.Native.Nat.{ℕ}
+use Prim.Native.Nat.{ℕ, _*_, _/_}
 use lib.IntN.{ℤ, pos, negℤ}
-use lib.ListN.{replicate}
-use Rattle.terms.specs.Limits.{eyeHeight, objectHeight}
+use lib.ListN.{getD, replicate}
+use Rattle.terms.specs.Limits.{stoppingPurpose, eyeHeight, objectHeight}
 use Rattle.terms.specs.declared.Answer.the-variants.{Number}
 use Rattle.terms.specs.declared.Verdict.the-variants.{Accepted}
-use Rattle.distance.specs.Distance.{requiredDistance}
+use Rattle.distance.specs.Distance.{purposeRow, metreParts, levelParts, requiredDistance}
 use Rattle.crest.specs.Crest.{crestLength}
 use Rattle.road.specs.declared.Curve.{Curve}
 use Rattle.road.specs.declared.Road.{Road}
 use Rattle.road.specs.Road.{roadVerdict}
-use Rattle.heights.specs.Profile.{storedHeight}
+use Rattle.heights.specs.Heights.{ownHeights}
 use Rattle.sight.specs.Operations.{sightAnswer}
 
 -- a curve by its PVI, its length and its grade out
@@ -31,11 +31,16 @@ crestRoad l = record {
   curves = curve 50 l (negℤ (pos 300)) ∷ replicate 31 (curve 0 0 (pos 0));
 }
 
+-- what Heights leaves at station x of that road; −1 behind its last station
+unfoldable pub heightAt : ℕ → ℕ → ℤ
+heightAt l x = getD (ownHeights (crestRoad l)) x (negℤ (pos 1))
+
 pub record StarredCases : Type 0 where
-  -- Distances a driver needs
+  -- Distances a driver needs: the 129.01 m before rounding in hundredths of a metre, rounded down
   pub distances :
-      (requiredDistance 80 0 ≡ Number 130)
-      × (requiredDistance 100 0 ≡ Number 185)
+      (requiredDistance 80 stoppingPurpose ≡ Number 130)
+      × (100 * levelParts 80 (purposeRow stoppingPurpose) / metreParts ≡ 12901)
+      × (requiredDistance 100 stoppingPurpose ≡ Number 185)
       × (requiredDistance 20 1 ≡ Number 25)
       × (requiredDistance 130 5 ≡ Number 525)
   -- How long a crest must be: e = 10,800 and o = 6,000
@@ -47,11 +52,11 @@ pub record StarredCases : Type 0 where
   -- The road and its heights
   pub heights :
       (roadVerdict (crestRoad 20) ≡ Accepted)
-      × (storedHeight (crestRoad 20) 41 ≡ pos 12285)
-      × (storedHeight (crestRoad 20) 50 ≡ pos 13500)
-      × (storedHeight (crestRoad 20) 100 ≡ pos 0)
+      × (heightAt 20 41 ≡ pos 12285)
+      × (heightAt 20 50 ≡ pos 13500)
+      × (heightAt 20 100 ≡ pos 0)
       × (roadVerdict (crestRoad 18) ≡ Accepted)
-      × (storedHeight (crestRoad 18) 42 ≡ pos 12583)
+      × (heightAt 18 42 ≡ pos 12583)
   -- What can be seen: from station 0 with farthest 8
   pub sights :
       (sightAnswer (pos 0 ∷ pos 20 ∷ pos 0 ∷ pos 100 ∷ []) 0 10 5 8 ≡ Number 1)
