@@ -69,7 +69,7 @@ fn half_of(c: Curve) -> u32
     (c.length / 2) as u32
 }
 
-// Where a curve begins; one that reaches before station 0 begins there.
+// Where a curve begins; 0 for one that reaches back before station 0.
 pub fn begin_of(c: Curve) -> u64
     ensures { λ r. ⌜ r ≡ begin c ⌝ }
 {
