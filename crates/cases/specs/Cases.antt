@@ -1,4 +1,5 @@
--- The starred cases of docs/RULES.md, in its order, with the acceptance of both roads and the height 0 at 100 beside them.
+-- The starred cases, which are worked examples of the rules, by the headings of docs/RULES.md; the acceptance of both roads and the
+-- height 0 at 100 stand beside them.
 use mathlib.Core.Path.{_≡_}
 use mathlib.Core.List.{[], _∷_}
 use Prim.Native.Nat.{ℕ, _*_, _/_}

@@ -1,2 +1,2 @@
-// The table of the starred cases of docs/RULES.md, specs/Cases.antt, proved of the definitions that the contracts cite:
+// The table of the starred cases, specs/Cases.antt, proved of the definitions that the contracts cite:
 // `starred-cases` in proofs/Cases.antt.
