@@ -162,7 +162,7 @@ module _ (test : ℕ → Bool) where
 abbrev pub crestTest : ℕ → ℕ → ℕ → ℕ → ℕ → Bool
 crestTest a s e o = adequate a s (2 * (e + o)) (16 * e * o)
 
--- a, S, e and o are in document 01's ranges
+-- a, S, e and o are in their ranges
 pub record InRange (a s e o : ℕ) : Type 0 where
   pub drop : (1 ≤ a) × (a ≤ greatestDrop)
   pub sight : (1 ≤ s) × (s ≤ greatestSightDistance)

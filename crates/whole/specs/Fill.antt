@@ -1,5 +1,4 @@
--- A list with a row of its places filled: document 01 says of every lent list which places are written, and that the
--- others stay.
+-- A list with a row of its places filled: the rules say of every lent list which places are written, and that the others stay.
 use Prim.Native.Nat.{ℕ, zero, suc, _+_}
 use mathlib.Core.List.{List}
 use lib.ListN.{set}
