@@ -18,7 +18,7 @@ use Rattle.marks.specs.RoadFile.{markFileAnswer, markFileList}
 use Rattle.zones.specs.Zones.{zoneEnds, zoneCount, zonesAnswer, zonesList}
 use Rattle.zones.proofs.Laws.{zones-at-most}
 use Rattle.listing.specs.Listing.{zoneLines, bitLetters, bitLines, ownMarks}
-use Rattle.listing.proofs.Placed.{joined-cong}
+use Rattle.listing.proofs.Joined.{joined-cong}
 
 -- a number is no refusal
 pub number-not-refused : (a : Answer) (n k : ℕ) → a ≡ Number n → a ≡ Refused k → ⊥

@@ -25,7 +25,7 @@ use Rattle.zones.specs.Zones.{zoneEnds, zoneCount}
 use Rattle.zones.proofs.Laws.{zones-at-most}
 use Rattle.listing.specs.Listing.{digit, decimal, space, lineFeed, item, refusedLine, firstLine, zoneLine, bitLetters, bitLines, zonesText, ownMarks, linesFor, textFor, listing, listAnswer}
 use Rattle.listing.proofs.Lent.{number-not-refused}
-use Rattle.listing.proofs.Placed.{joined-at-most}
+use Rattle.listing.proofs.Joined.{joined-at-most}
 
 -- ---- numbers
 one-or-none : (test : Bool) (b : ℕ) → length (cond test [] (b ∷ [])) ≤ 1

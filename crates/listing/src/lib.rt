@@ -3,9 +3,9 @@ ghost use mathlib.Core.Path.{_≡_};
 ghost use mathlib.Core.List.{[], _∷_};
 ghost use Prim.Native.Nat.{_*_, _≤_, _<_};
 ghost use lib.ListN.{length};
+ghost use Rattle.whole.specs.Placed.{Room, Wrote};
 ghost use Rattle.terms.specs.Limits.{lastBit, greatestList};
 ghost use Rattle.listing.specs.Listing.{digit, decimal, item, refusedLine, firstLine, zoneLine, zoneLines, bitLines, zonesText, linesFor, listing, listAnswer, listBuffer};
-ghost use Rattle.listing.specs.Placed.{Room, Wrote};
 use terms::Answer;
 use terms::Verdict;
 

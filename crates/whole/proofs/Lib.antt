@@ -6,3 +6,4 @@ pub mod Range
 pub mod Ring
 pub mod Twos
 pub mod Table
+pub mod Placed

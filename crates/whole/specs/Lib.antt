@@ -1,3 +1,4 @@
 pub mod Fill
 pub mod Floor
 pub mod Fractions
+pub mod Placed

@@ -8,13 +8,13 @@ use borrow.Author.Tests.{lt-ltb, le-ltb}
 use native.Mathlib.Omega.{arith}
 use lib.ListN.{length, take, replicate, length-replicate}
 use lib.Seq.{length-take-le}
+use Rattle.whole.specs.Placed.{Room, Wrote}
+use Rattle.whole.proofs.Placed.{wrote-filled, wrote-front}
 use Rattle.terms.specs.Refusals.{roomRefused}
 use Rattle.terms.specs.declared.Answer.the-variants.{Number, Refused}
 use Rattle.terms.proofs.Laws.{written-refused, written-number}
 use Rattle.listing.specs.Listing.{listing, listAnswer, listBuffer}
-use Rattle.listing.specs.Placed.{Room, Wrote}
 use Rattle.listing.proofs.Longest.{greatestListing, listing-at-most}
-use Rattle.listing.proofs.Placed.{wrote-filled, wrote-front}
 use Rattle.listing.proofs.list_road_file.Statement.{statement}
 use Rattle.listing.proofs.list_road_file.Tie as tie
 

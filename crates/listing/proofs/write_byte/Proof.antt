@@ -1,6 +1,6 @@
 -- `write_byte` meets its contract: one store.
 use borrow.Author.Needs.{needs}
-use Rattle.listing.proofs.Placed.{wrote-byte}
+use Rattle.whole.proofs.Placed.{wrote-byte}
 use Rattle.listing.proofs.write_byte.Statement.{statement}
 use Rattle.listing.proofs.write_byte.Tie as tie
 

@@ -1,8 +1,8 @@
 -- `write_decimal` meets its contract: the digits one behind the other.
 use borrow.Author.Needs.{needs}
 use native.Mathlib.Omega.{arith}
+use Rattle.whole.proofs.Placed.{wrote-join, room-first, room-next}
 use Rattle.listing.specs.Listing.{decimal}
-use Rattle.listing.proofs.Placed.{wrote-join, room-first, room-next}
 use Rattle.listing.proofs.write_decimal.Statement.{statement}
 use Rattle.listing.proofs.write_decimal.Tie as tie
 

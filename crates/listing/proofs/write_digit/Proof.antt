@@ -1,8 +1,8 @@
 -- `write_digit` meets its contract, by the test of the definition.
 use borrow.Author.Tests.{lt-ltb, le-ltb}
 use borrow.Author.Needs.{needs}
+use Rattle.whole.proofs.Placed.{wrote-none}
 use Rattle.listing.specs.Listing.{digit}
-use Rattle.listing.proofs.Placed.{wrote-none}
 use Rattle.listing.proofs.write_digit.Statement.{statement}
 use Rattle.listing.proofs.write_digit.Tie as tie
 

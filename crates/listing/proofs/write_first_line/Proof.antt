@@ -1,7 +1,7 @@
 -- `write_first_line` meets its contract: its items one behind the other.
 use borrow.Author.Needs.{needs}
+use Rattle.whole.proofs.Placed.{wrote-join, room-first, room-next}
 use Rattle.listing.specs.Listing.{fileWord, firstLine}
-use Rattle.listing.proofs.Placed.{wrote-join, room-first, room-next}
 use Rattle.listing.proofs.write_first_line.Statement.{statement}
 use Rattle.listing.proofs.write_first_line.Tie as tie
 

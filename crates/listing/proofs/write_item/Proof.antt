@@ -1,7 +1,7 @@
 -- `write_item` meets its contract: the digits and the byte behind them, one behind the other.
 use borrow.Author.Needs.{needs}
+use Rattle.whole.proofs.Placed.{wrote-join, room-first, room-next}
 use Rattle.listing.specs.Listing.{item}
-use Rattle.listing.proofs.Placed.{wrote-join, room-first, room-next}
 use Rattle.listing.proofs.write_item.Statement.{statement}
 use Rattle.listing.proofs.write_item.Tie as tie
 

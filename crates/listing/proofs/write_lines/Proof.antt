@@ -2,11 +2,11 @@
 use mathlib.Core.Path.{_≡_, ap, _∙_}
 use borrow.Author.Needs.{needs}
 use native.Mathlib.Omega.{arith}
+use Rattle.whole.specs.Placed.{Wrote}
+use Rattle.whole.proofs.Placed.{wrote-join, room-first, room-next}
 use Rattle.terms.specs.Answers.{valueOrZero}
 use Rattle.marks.specs.Marks.{stoppingDistance, decisionDistance}
 use Rattle.listing.specs.Listing.{firstLine, linesFor}
-use Rattle.listing.specs.Placed.{Wrote}
-use Rattle.listing.proofs.Placed.{wrote-join, room-first, room-next}
 use Rattle.listing.proofs.write_lines.Statement.{statement}
 use Rattle.listing.proofs.write_lines.Tie as tie
 

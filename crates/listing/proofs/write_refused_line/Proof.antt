@@ -1,7 +1,7 @@
 -- `write_refused_line` meets its contract: the word and the number, one behind the other.
 use borrow.Author.Needs.{needs}
+use Rattle.whole.proofs.Placed.{wrote-join, room-first, room-next}
 use Rattle.listing.specs.Listing.{refusedWord, refusedLine}
-use Rattle.listing.proofs.Placed.{wrote-join, room-first, room-next}
 use Rattle.listing.proofs.write_refused_line.Statement.{statement}
 use Rattle.listing.proofs.write_refused_line.Tie as tie
 

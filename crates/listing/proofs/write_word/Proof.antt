@@ -6,9 +6,10 @@ use mathlib.Core.List.{List, [], _∷_}
 use borrow.Author.Needs.{needs}
 use native.Mathlib.Omega.{arith}
 use lib.ListN.{length, getD}
+use Rattle.whole.specs.Placed.{Wrote}
+use Rattle.whole.proofs.Placed.{wrote-length}
 use Rattle.listing.specs.Listing.{joined}
-use Rattle.listing.specs.Placed.{Wrote}
-use Rattle.listing.proofs.Placed.{wrote-zero, wrote-turn, room-turn, wrote-length, joined-bytes}
+use Rattle.listing.proofs.Joined.{wrote-zero, wrote-turn, room-turn, joined-bytes}
 use Rattle.listing.proofs.write_word.Statement.{statement}
 use Rattle.listing.proofs.write_word.Tie as tie
 

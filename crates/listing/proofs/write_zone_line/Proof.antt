@@ -1,8 +1,8 @@
 -- `write_zone_line` meets its contract: its letter and its items one behind the other.
 use mathlib.Core.List.{[], _∷_}
 use borrow.Author.Needs.{needs}
+use Rattle.whole.proofs.Placed.{wrote-join, room-first, room-next}
 use Rattle.listing.specs.Listing.{space, zoneLine}
-use Rattle.listing.proofs.Placed.{wrote-join, room-first, room-next}
 use Rattle.listing.proofs.write_zone_line.Statement.{statement}
 use Rattle.listing.proofs.write_zone_line.Tie as tie
 

@@ -6,9 +6,10 @@ use mathlib.Core.List.{List}
 use borrow.Author.Needs.{needs}
 use native.Mathlib.Omega.{arith}
 use lib.ListN.{getD}
+use Rattle.whole.specs.Placed.{Wrote}
+use Rattle.whole.proofs.Placed.{wrote-length}
 use Rattle.listing.specs.Listing.{zoneLine, zoneLines}
-use Rattle.listing.specs.Placed.{Wrote}
-use Rattle.listing.proofs.Placed.{wrote-zero, wrote-turn, wrote-length, room-turn}
+use Rattle.listing.proofs.Joined.{wrote-zero, wrote-turn, room-turn}
 use Rattle.listing.proofs.write_zone_lines.Statement.{statement}
 use Rattle.listing.proofs.write_zone_lines.Tie as tie
 

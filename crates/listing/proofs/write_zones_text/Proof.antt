@@ -4,10 +4,11 @@ use Prim.Native.Nat.{_≤_, _+_, _-_}
 use mathlib.Core.Path.{_≡_}
 use borrow.Author.Needs.{needs}
 use native.Mathlib.Omega.{arith}
+use Rattle.whole.specs.Placed.{Wrote}
+use Rattle.whole.proofs.Placed.{wrote-length}
 use Rattle.terms.specs.Limits.{lastBit}
 use Rattle.listing.specs.Listing.{joined, bitLines}
-use Rattle.listing.specs.Placed.{Wrote}
-use Rattle.listing.proofs.Placed.{wrote-zero, wrote-turn, wrote-length, room-turn}
+use Rattle.listing.proofs.Joined.{wrote-zero, wrote-turn, room-turn}
 use Rattle.listing.proofs.write_zones_text.Statement.{statement}
 use Rattle.listing.proofs.write_zones_text.Tie as tie
 

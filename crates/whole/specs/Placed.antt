@@ -1,5 +1,5 @@
--- Bytes written into a text from a place on: what the private writers of the listing require and leave. Private contracts alone
--- cite it: nothing here need be believed.
+-- Bytes written into a text from a place on: what private writers of bytes require and leave. Private contracts alone cite it:
+-- nothing here need be believed.
 use Prim.Native.Nat.{ℕ, _+_, _≤_}
 use mathlib.Core.Path.{_≡_}
 use mathlib.Core.List.{List, [], _∷_}
