@@ -1,7 +1,7 @@
--- Document 01, "Road file": where each number stands. All numbers are little-endian, signed ones two's complement.
-use Prim.Native.Nat.{ℕ, _+_, _*_}
+-- docs/RULES.md, "Road file": where each number stands. All numbers are little-endian, signed ones two's complement.
+use Prim.Native.Nat.{ℕ, zero, suc, _+_, _*_}
 use mathlib.Core.List.{List, [], _∷_}
-use lib.IntN.{ℤ, pos}
+use lib.IntN.{pos}
 use lib.ListN.{getD, replicate}
 use mir.Syntax.{w16, w32}
 use mir.Val.{toZ}
@@ -12,26 +12,22 @@ use Rattle.road.specs.declared.Road.{Road}
 use Rattle.road.specs.Road.{noCurve}
 
 -- ---- numbers in a file
--- the byte at place k; the number of 2 or 4 bytes from k on, unsigned, then signed
+-- the byte at place k, and 0 behind the end
 abbrev pub byteAt : List ℕ → ℕ → ℕ
 byteAt s k = getD s k 0
 
-abbrev pub u16At : List ℕ → ℕ → ℕ
-u16At s k = byteAt s k + 256 * byteAt s (k + 1)
-
-abbrev pub u32At : List ℕ → ℕ → ℕ
-u32At s k = u16At s k + 65536 * u16At s (k + 2)
-
-abbrev pub i16At : List ℕ → ℕ → ℤ
-i16At s k = toZ w16 (u16At s k)
-
-abbrev pub i32At : List ℕ → ℕ → ℤ
-i32At s k = toZ w32 (u32At s k)
+-- the number of w bytes from place k on, lowest first; the signed number with these bits is `toZ` of it
+unfoldable pub numberAt : List ℕ → ℕ → ℕ → ℕ
+numberAt s k zero = 0
+numberAt s k (suc w) = byteAt s k + 256 * numberAt s (k + 1) w
 
 -- ---- the road in a file
--- how a file begins: the letters VCP, and the version
+-- how a file begins: the letters VCP, which are a number of three bytes, and the version
 abbrev pub letters : List ℕ
 letters = 86 ∷ 67 ∷ 80 ∷ []
+
+abbrev pub lettersNumber : ℕ
+lettersNumber = byteAt letters 0 + 256 * (byteAt letters 1 + 256 * byteAt letters 2)
 
 abbrev pub version : ℕ
 version = 1
@@ -46,7 +42,9 @@ curveCount s = byteAt s 15
 
 -- record k, which begins where a file with k curves ends: PVI, length, grade out
 unfoldable pub curveAt : List ℕ → ℕ → Curve
-curveAt s k = let at = fileLength k in record { pvi = u16At s at; length = u16At s (at + 2); «grade_out» = i16At s (at + 4) }
+curveAt s k =
+    let at = fileLength k in
+    record { pvi = numberAt s at 2; length = numberAt s (at + 2) 2; «grade_out» = toZ w16 (numberAt s (at + 4) 2) }
 
 -- speed at byte 5, purpose at 6, N at 7, start height at 9, first grade at 13, the number of curves n at 15, then n records;
 -- the other curve places are zero
@@ -54,9 +52,9 @@ unfoldable pub roadIn : List ℕ → Road
 roadIn s = record {
   speed = byteAt s 5;
   purpose = byteAt s 6;
-  length = u16At s 7;
-  «start_height» = i32At s 9;
-  «first_grade» = i16At s 13;
+  length = numberAt s 7 2;
+  «start_height» = toZ w32 (numberAt s 9 4);
+  «first_grade» = toZ w16 (numberAt s 13 2);
   count = curveCount s;
   curves = filled (curveAt s) 0 (curveCount s) (replicate greatestCurveCount noCurve);
 }

@@ -1,14 +1,14 @@
-// Document 01, "Road file": its layout, and reading it. All numbers little-endian, signed ones two's complement.
+// docs/RULES.md, "Road file": its layout, and reading it. All numbers little-endian, signed ones two's complement.
 ghost use mathlib.Core.Path.{_≡_};
-ghost use Prim.Native.Nat.{_+_, _<_, _≤_};
+ghost use Prim.Native.Nat.{_+_, _^_, _<_, _≤_};
 ghost use lib.ListN.{length, replicate};
 ghost use mir.Syntax.{w16, w32};
 ghost use mir.Val.{toZ};
 ghost use Rattle.whole.specs.Fill.{filled};
 ghost use Rattle.terms.specs.Limits.{greatestCurveCount};
 ghost use Rattle.road.specs.Road.{noCurve};
-ghost use Rattle.file.specs.File.{u16At, u32At, fileLength, curveCount, noRoad, curveAt, roadIn};
-ghost use Rattle.file.specs.Reading.{readRoad};
+ghost use Rattle.file.specs.File.{numberAt, fileLength, curveCount, curveAt, roadIn};
+ghost use Rattle.file.specs.Reading.{headerVerdict, readRoad};
 use road::Curve;
 use road::Road;
 use terms::Verdict;
@@ -41,8 +41,11 @@ pub const CURVE_BYTES: usize = 6;
 // One byte more than the longest road file has. It is enough to read: a longer file is refused as its first so many bytes are.
 pub const ENOUGH_BYTES: usize = HEADER_BYTES + CURVE_BYTES * road::CURVE_PLACES + 1;
 
+// The letters VCP, as the number of their three bytes.
+pub const LETTERS: u32 = 0x504356;
+
 // The version that is read and written.
-pub const VERSION: u16 = 1;
+pub const VERSION: u32 = 1;
 
 // The length of a file with this many curves, and so where record `count` begins.
 pub fn file_length(count: u8) -> usize
@@ -52,29 +55,24 @@ pub fn file_length(count: u8) -> usize
 }
 
 // ---- numbers in a file
-fn wide(byte: u8) -> u16
-    ensures { λ r. ⌜ (r ≡ byte) × (r < 256) ⌝ }
+// The number of `width` bytes from place `at` on, lowest first.
+fn number_at(file: &[u8], at: usize, width: usize) -> u32
+    requires { ⌜ (width ≤ 4) × (at + width ≤ length (now file)) ⌝ }
+    ensures { λ r. ⌜ (r ≡ numberAt (now (file .entry)) at width) × (r < 256 ^ width) ⌝ }
 {
-    byte as u16
-}
-
-fn u16_at(file: &[u8], at: usize) -> u16
-    requires { ⌜ at + 1 < length (now file) ⌝ }
-    ensures { λ r. ⌜ r ≡ u16At (now (file .entry)) at ⌝ }
-{
-    wide(file[at]) + 256 * wide(file[at + 1])
-}
-
-fn u32_at(file: &[u8], at: usize) -> u32
-    requires { ⌜ at + 3 < length (now file) ⌝ }
-    ensures { λ r. ⌜ r ≡ u32At (now (file .entry)) at ⌝ }
-{
-    (u16_at(file, at) as u32) + 65536 * (u16_at(file, at + 2) as u32)
+    let mut number: u32 = 0;
+    let mut k = width;
+    while 0 < k {
+        k -= 1;
+        number = 256 * number + file[at + k] as u32;
+    }
+    number
 }
 
 // The number whose bits these are. No cast wraps: in the upper half 65,535 − bits fits the lower half, and −1 minus that is
 // the number.
-fn signed16(bits: u16) -> i16
+fn signed16(bits: u32) -> i16
+    requires { ⌜ bits < 65536 ⌝ }
     ensures { λ r. ⌜ r ≡ toZ w16 bits ⌝ }
 {
     if bits < 32768 {
@@ -99,9 +97,9 @@ fn curve_at(file: &[u8], k: u8) -> Curve
 {
     let at = file_length(k);
     Curve {
-        pvi: u16_at(file, at) as u32,
-        length: u16_at(file, at + 2),
-        grade_out: signed16(u16_at(file, at + 4)),
+        pvi: number_at(file, at, 2),
+        length: number_at(file, at + 2, 2) as u16,
+        grade_out: signed16(number_at(file, at + 4, 2)),
     }
 }
 
@@ -132,9 +130,9 @@ fn road_in(file: &[u8]) -> Road
     Road {
         speed: file[SPEED_AT],
         purpose: file[PURPOSE_AT],
-        length: u16_at(file, LENGTH_AT) as u32,
-        start_height: signed32(u32_at(file, START_HEIGHT_AT)),
-        first_grade: signed16(u16_at(file, FIRST_GRADE_AT)),
+        length: number_at(file, LENGTH_AT, 2),
+        start_height: signed32(number_at(file, START_HEIGHT_AT, 4)),
+        first_grade: signed16(number_at(file, FIRST_GRADE_AT, 2)),
         count: file[COUNT_AT],
         curves,
     }
@@ -150,40 +148,47 @@ const NO_ROAD: Road = Road {
     curves: [NO_CURVE; road::CURVE_PLACES],
 };
 
-// What reading answers to a file that is refused.
-fn refused(number: u8) -> ReadRoad
-    ensures { λ r. ⌜ r ≡ record { verdict = Verdict.Fault number; road = noRoad } ⌝ }
+// Refusals 1 to 5 of a file, by its header and its length.
+fn header_verdict(file: &[u8]) -> Verdict
+    ensures { λ r. ⌜ r ≡ headerVerdict (now (file .entry)) ⌝ }
 {
-    ReadRoad {
-        verdict: Verdict::Fault(number),
-        road: NO_ROAD,
+    if file.len() < HEADER_BYTES {
+        return Verdict::Fault(terms::SHORT_FILE_REFUSED);
     }
+    if number_at(file, 0, 3) != LETTERS {
+        return Verdict::Fault(terms::LETTERS_REFUSED);
+    }
+    if number_at(file, VERSION_AT, 2) != VERSION {
+        return Verdict::Fault(terms::VERSION_REFUSED);
+    }
+    let count = file[COUNT_AT];
+    if terms::GREATEST_CURVE_COUNT < count {
+        return Verdict::Fault(terms::CURVE_COUNT_REFUSED);
+    }
+    if file.len() != file_length(count) {
+        return Verdict::Fault(terms::TOTAL_REFUSED);
+    }
+    Verdict::Accepted
 }
 
 // Reads a road file. Refused by 1 to 5 as its header is, then by 6 to 13 as its road is.
 pub fn read(file: &[u8]) -> ReadRoad
     ensures { λ r. ⌜ r ≡ readRoad (now (file .entry)) ⌝ }
 {
-    if file.len() < HEADER_BYTES {
-        return refused(terms::SHORT_FILE_REFUSED);
-    }
-    if (file[0] != b'V') | (file[1] != b'C') | (file[2] != b'P') {
-        return refused(terms::LETTERS_REFUSED);
-    }
-    if u16_at(file, VERSION_AT) != VERSION {
-        return refused(terms::VERSION_REFUSED);
-    }
-    let count = file[COUNT_AT];
-    if terms::GREATEST_CURVE_COUNT < count {
-        return refused(terms::CURVE_COUNT_REFUSED);
-    }
-    if file.len() != file_length(count) {
-        return refused(terms::TOTAL_REFUSED);
+    let header = header_verdict(file);
+    if let Verdict::Fault(_) = header {
+        return ReadRoad {
+            verdict: header,
+            road: NO_ROAD,
+        };
     }
     let road = road_in(file);
     let verdict = road::verdict(road);
-    match verdict {
-        Verdict::Fault(number) => refused(number),
-        Verdict::Accepted => ReadRoad { verdict, road },
+    if let Verdict::Fault(_) = verdict {
+        return ReadRoad {
+            verdict,
+            road: NO_ROAD,
+        };
     }
+    ReadRoad { verdict, road }
 }

@@ -1,4 +1,4 @@
--- Document 01, "Road file": writing.
+-- docs/RULES.md, "Road file": writing.
 use Prim.Native.Nat.{ℕ}
 use mathlib.Core.List.{List}
 use Rattle.terms.specs.Answers.{unless, roomFor, written}

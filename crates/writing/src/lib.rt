@@ -1,13 +1,13 @@
-// Document 01, "Road file": writing it. All numbers little-endian, signed ones two's complement.
+// docs/RULES.md, "Road file": writing it. All numbers little-endian, signed ones two's complement.
 ghost use mathlib.Core.Path.{_≡_};
-ghost use Prim.Native.Nat.{ℕ, _+_, _-_, _/_, _%_, _≤_};
+ghost use Prim.Native.Nat.{_+_, _≤_};
 ghost use lib.ListN.{length};
 ghost use mir.Syntax.{w16, w32};
 ghost use mir.Val.{ofZ};
-ghost use Rattle.whole.specs.Fill.{filled};
+ghost use Rattle.whole.specs.Placed.{Wrote};
 ghost use Rattle.terms.specs.Limits.{greatestCurveCount};
-ghost use Rattle.file.specs.File.{byteAt, fileLength};
-ghost use Rattle.writing.specs.Bytes.{headerBytes, curveBytes, fileBytes};
+ghost use Rattle.file.specs.File.{fileLength};
+ghost use Rattle.writing.specs.Bytes.{bytesOf, frontBytes, headerBytes, curveBytes, fileBytes};
 ghost use Rattle.writing.specs.Writing.{writeAnswer, writeList};
 use road::Curve;
 use road::Road;
@@ -15,13 +15,13 @@ use terms::Answer;
 use terms::Verdict;
 
 // The two's complement bits of a number: `signed16` of `file` gives it back.
-fn bits16(number: i16) -> u16
+fn bits16(number: i16) -> u32
     ensures { λ r. ⌜ r ≡ ofZ w16 number ⌝ }
 {
     if number < 0 {
-        return 65535 - ((-1 - number) as u16);
+        return 65535 - ((-1 - number) as u32);
     }
-    number as u16
+    number as u32
 }
 
 fn bits32(number: i32) -> u32
@@ -33,81 +33,64 @@ fn bits32(number: i32) -> u32
     number as u32
 }
 
-// The lowest byte of a number, and the one above it.
-fn low(number: u32) -> u8
-    ensures { λ r. ⌜ r ≡ number % 256 ⌝ }
+// Stores the `width` bytes of a number from place `at` on, lowest first. The answer, here and below, is the place behind what is
+// stored.
+fn put_number(number: u32, width: usize, buffer: &mut [u8], at: usize) -> usize
+    requires { ⌜ at + width ≤ length (now buffer) ⌝ }
+    ensures { λ r. ⌜ Wrote (bytesOf width number) at r (now (buffer .entry)) (now (buffer .exit)) ⌝ }
 {
-    (number % 256) as u8
-}
-
-fn high(number: u32) -> u8
-    ensures { λ r. ⌜ r ≡ number / 256 % 256 ⌝ }
-{
-    (number / 256 % 256) as u8
-}
-
-fn header_bytes(road: Road) -> [u8; file::HEADER_BYTES]
-    ensures { λ r. ⌜ r ≡ headerBytes road ⌝ }
-{
-    let start = bits32(road.start_height);
-    let grade = bits16(road.first_grade) as u32;
-    [
-        b'V',
-        b'C',
-        b'P',
-        low(file::VERSION as u32),
-        high(file::VERSION as u32),
-        road.speed,
-        road.purpose,
-        low(road.length),
-        high(road.length),
-        low(start),
-        high(start),
-        low(start / 65536),
-        high(start / 65536),
-        low(grade),
-        high(grade),
-        road.count,
-    ]
-}
-
-fn curve_bytes(curve: Curve) -> [u8; file::CURVE_BYTES]
-    ensures { λ r. ⌜ r ≡ curveBytes curve ⌝ }
-{
-    let length = curve.length as u32;
-    let grade = bits16(curve.grade_out) as u32;
-    [
-        low(curve.pvi),
-        high(curve.pvi),
-        low(length),
-        high(length),
-        low(grade),
-        high(grade),
-    ]
-}
-
-// Stores bytes in a row, the first at place `at`.
-fn put(buffer: &mut [u8], at: usize, bytes: &[u8])
-    requires { ⌜ at + length (now bytes) ≤ length (now buffer) ⌝ }
-    ensures { λ _. ⌜ now (buffer .exit) ≡ filled (λ (k : ℕ). byteAt (now (bytes .entry)) (k - at)) at (length (now (bytes .entry))) (now (buffer .entry)) ⌝ }
-{
-    for k in 0..bytes.len() {
-        buffer[at + k] = bytes[k];
+    let mut rest = number;
+    for k in 0..width {
+        buffer[at + k] = (rest % 256) as u8;
+        rest /= 256;
     }
+    at + width
 }
 
-// Stores the file of a road at the front of a buffer that has room for it.
-fn put_file(buffer: &mut [u8], road: Road)
-    requires { ⌜ (road .count ≤ greatestCurveCount) × (fileLength (road .count) ≤ length (now buffer)) ⌝ }
-    ensures { λ _. ⌜ now (buffer .exit) ≡ filled (byteAt (fileBytes road)) 0 (fileLength (road .count)) (now (buffer .entry)) ⌝ }
+// Stores the first numbers of a road, from place 0 on.
+fn put_front(road: Road, buffer: &mut [u8]) -> usize
+    requires { ⌜ fileLength 0 ≤ length (now buffer) ⌝ }
+    ensures { λ r. ⌜ Wrote (frontBytes road) 0 r (now (buffer .entry)) (now (buffer .exit)) ⌝ }
 {
-    let header = header_bytes(road);
-    put(buffer, 0, &header);
+    let version = put_number(file::LETTERS, 3, buffer, 0);
+    let speed = put_number(file::VERSION, 2, buffer, version);
+    let purpose = put_number(road.speed as u32, 1, buffer, speed);
+    let length = put_number(road.purpose as u32, 1, buffer, purpose);
+    put_number(road.length, 2, buffer, length)
+}
+
+// Stores the header of a road, from place 0 on.
+fn put_header(road: Road, buffer: &mut [u8]) -> usize
+    requires { ⌜ fileLength 0 ≤ length (now buffer) ⌝ }
+    ensures { λ r. ⌜ Wrote (headerBytes road) 0 r (now (buffer .entry)) (now (buffer .exit)) ⌝ }
+{
+    let start = put_front(road, buffer);
+    let grade = put_number(bits32(road.start_height), 4, buffer, start);
+    let count = put_number(bits16(road.first_grade), 2, buffer, grade);
+    put_number(road.count as u32, 1, buffer, count)
+}
+
+// Stores the record of a curve from place `at` on.
+fn put_curve(curve: Curve, buffer: &mut [u8], at: usize) -> usize
+    requires { ⌜ at + 6 ≤ length (now buffer) ⌝ }
+    ensures { λ r. ⌜ Wrote (curveBytes curve) at r (now (buffer .entry)) (now (buffer .exit)) ⌝ }
+{
+    let length = put_number(curve.pvi, 2, buffer, at);
+    let grade = put_number(curve.length as u32, 2, buffer, length);
+    put_number(bits16(curve.grade_out), 2, buffer, grade)
+}
+
+// Stores the file of a road.
+fn put_file(road: Road, buffer: &mut [u8]) -> usize
+    requires { ⌜ (road .count ≤ greatestCurveCount) × (fileLength (road .count) ≤ length (now buffer)) ⌝ }
+    ensures { λ r. ⌜ Wrote (fileBytes road) 0 r (now (buffer .entry)) (now (buffer .exit)) ⌝ }
+{
+    let mut next = put_header(road, buffer);
     for k in 0..road.count {
         let curve = road.curves[k as usize];
-        let bytes = curve_bytes(curve);
-        put(buffer, file::file_length(k), &bytes);
+        next = put_curve(curve, buffer, next);
     }
+    next
 }
 
 // Writes a road's file at the front of a buffer, and answers how many bytes that is. Refused by 4 and 6 to 13 as the road
@@ -117,15 +100,13 @@ pub fn write(road: Road, buffer: &mut [u8]) -> Answer
     ensures list { λ _. ⌜ now (buffer .exit) ≡ writeList road (now (buffer .entry)) ⌝ }
 {
     let verdict = road::verdict(road);
-    match verdict {
-        Verdict::Fault(number) => Answer::Refused(number),
-        Verdict::Accepted => {
-            let total = file::file_length(road.count);
-            if buffer.len() < total {
-                return Answer::Refused(terms::ROOM_REFUSED);
-            }
-            put_file(buffer, road);
-            Answer::Number(total as u32)
-        }
+    if let Verdict::Fault(number) = verdict {
+        return Answer::Refused(number);
     }
+    let total = file::file_length(road.count);
+    if buffer.len() < total {
+        return Answer::Refused(terms::ROOM_REFUSED);
+    }
+    put_file(road, buffer);
+    Answer::Number(total as u32)
 }

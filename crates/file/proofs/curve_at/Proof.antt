@@ -9,23 +9,23 @@ use Rattle.file.proofs.curve_at.Tie as tie
 file-length-requires : tie.Need-file-length-requires
 file-length-requires c κs = search needs
 
-u16-at-requires : tie.Need-u16-at-requires
-u16-at-requires c κs = search needs
+number-at-requires : tie.Need-number-at-requires
+number-at-requires c κs = search needs
 
-cast-t5 : tie.Need-cast-t5
-cast-t5 c = search needs
+add-number-at : tie.Need-add-number-at
+add-number-at c = search needs
 
-add-u16-at : tie.Need-add-u16-at
-add-u16-at c = search needs
+number-at-requires-2 : tie.Need-number-at-requires-2
+number-at-requires-2 c κs = search needs
 
-u16-at-requires-2 : tie.Need-u16-at-requires-2
-u16-at-requires-2 c κs = search needs
+cast-t7 : tie.Need-cast-t7
+cast-t7 c = search needs
 
-add-u16-at-2 : tie.Need-add-u16-at-2
-add-u16-at-2 c = search needs
+add-number-at-2 : tie.Need-add-number-at-2
+add-number-at-2 c = search needs
 
-u16-at-requires-3 : tie.Need-u16-at-requires-3
-u16-at-requires-3 c κs = search needs
+number-at-requires-3 : tie.Need-number-at-requires-3
+number-at-requires-3 c κs = search needs
 
 signed16-requires : tie.Need-signed16-requires
 signed16-requires c κs = search needs
@@ -39,11 +39,11 @@ curve-at-spec =
     tie.close
     (tie.spec
     file-length-requires
-    u16-at-requires
-    cast-t5
-    add-u16-at
-    u16-at-requires-2
-    add-u16-at-2
-    u16-at-requires-3
+    number-at-requires
+    add-number-at
+    number-at-requires-2
+    cast-t7
+    add-number-at-2
+    number-at-requires-3
     signed16-requires
     returns)

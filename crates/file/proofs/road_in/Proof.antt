@@ -18,26 +18,23 @@ shared-slice-read-t4 c = search needs
 shared-slice-read-t7 : tie.Need-shared-slice-read-t7
 shared-slice-read-t7 c = search needs
 
-u16-at-requires : tie.Need-u16-at-requires
-u16-at-requires c κs = search needs
+number-at-requires : tie.Need-number-at-requires
+number-at-requires c κs = search needs
 
-cast-t9 : tie.Need-cast-t9
-cast-t9 c = search needs
-
-u32-at-requires : tie.Need-u32-at-requires
-u32-at-requires c κs = search needs
+number-at-requires-2 : tie.Need-number-at-requires-2
+number-at-requires-2 c κs = search needs
 
 signed32-requires : tie.Need-signed32-requires
 signed32-requires c κs = search needs
 
-u16-at-requires-2 : tie.Need-u16-at-requires-2
-u16-at-requires-2 c κs = search needs
+number-at-requires-3 : tie.Need-number-at-requires-3
+number-at-requires-3 c κs = search needs
 
 signed16-requires : tie.Need-signed16-requires
 signed16-requires c κs = search needs
 
-shared-slice-read-t15 : tie.Need-shared-slice-read-t15
-shared-slice-read-t15 c = search needs
+shared-slice-read-t14 : tie.Need-shared-slice-read-t14
+shared-slice-read-t14 c = search needs
 
 returns : tie.Need-returns
 unfolding roadIn
@@ -54,11 +51,10 @@ road-in-spec =
     curves-in-requires
     shared-slice-read-t4
     shared-slice-read-t7
-    u16-at-requires
-    cast-t9
-    u32-at-requires
+    number-at-requires
+    number-at-requires-2
     signed32-requires
-    u16-at-requires-2
+    number-at-requires-3
     signed16-requires
-    shared-slice-read-t15
+    shared-slice-read-t14
     returns)
