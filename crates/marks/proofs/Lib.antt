@@ -1,3 +1,2 @@
-pub mod FileAnswer
+pub mod Bits
 pub mod Mark
-pub mod OwnMarks

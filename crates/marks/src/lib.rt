@@ -1,15 +1,11 @@
-// Document 01, "Marks and zones": the mark of a station, and the marks of heights and of a road file.
+// docs/RULES.md, "Marks and zones": the mark of a station, and the marks of heights.
 ghost use mathlib.Core.Path.{_≡_};
 ghost use Prim.Native.Nat.{_+_, _<_, _≤_};
 ghost use lib.ListN.{length};
 ghost use Rattle.whole.specs.Fill.{filled};
 ghost use Rattle.terms.specs.Limits.{greatestList, greatestFarthest};
-ghost use Rattle.terms.specs.declared.Verdict.the-variants.{Accepted};
-ghost use Rattle.road.specs.Road.{roadVerdict};
-ghost use Rattle.heights.specs.Heights.{ownHeights};
-ghost use Rattle.marks.specs.Marks.{bit, markOf, markFor, marksAnswer, marksList};
-ghost use Rattle.marks.specs.RoadFile.{markFileAnswer, markFileList};
-use road::Road;
+ghost use Rattle.marks.specs.Marks.{bit, markOf, marksAnswer, marksList};
+use distance::Distances;
 use terms::Answer;
 use terms::Verdict;
 
@@ -32,11 +28,13 @@ fn compose(
 
 // The mark of station `i`. One search, up to the larger distance, serves both; a station that is judged for neither needs
 // none.
-fn mark_of(heights: &[i32], stopping: u32, decision: u32, i: usize) -> u8
+fn mark_of(heights: &[i32], d: Distances, i: usize) -> u8
     requires { ⌜ (i < length (now heights)) × (length (now heights) ≤ greatestList) ⌝ }
-    requires { ⌜ (stopping ≤ greatestFarthest) × (decision ≤ greatestFarthest) ⌝ }
-    ensures { λ r. ⌜ r ≡ markOf (now (heights .entry)) stopping decision i ⌝ }
+    requires { ⌜ (d .stopping ≤ greatestFarthest) × (d .decision ≤ greatestFarthest) ⌝ }
+    ensures { λ r. ⌜ r ≡ markOf (now (heights .entry)) d i ⌝ }
 {
+    let stopping = d.stopping;
+    let decision = d.decision;
     let last = heights.len() - 1;
     let stopping_judged = i + stopping as usize <= last;
     let decision_judged = i + decision as usize <= last;
@@ -68,16 +66,16 @@ fn mark_of(heights: &[i32], stopping: u32, decision: u32, i: usize) -> u8
     )
 }
 
-// Each station's mark, into the place of the station, from the last station back.
-fn fill_marks(heights: &[i32], stopping: u32, decision: u32, list: &mut [u8])
-    requires { ⌜ (length (now heights) ≤ length (now list)) × (length (now heights) ≤ greatestList) ⌝ }
-    requires { ⌜ (stopping ≤ greatestFarthest) × (decision ≤ greatestFarthest) ⌝ }
-    ensures { λ _. ⌜ now (list .exit) ≡ filled (markOf (now (heights .entry)) stopping decision) 0 (length (now (heights .entry))) (now (list .entry)) ⌝ }
+// The marks of `count` stations from `first` on, each into the place of its station, from the last one back.
+fn fill_marks(heights: &[i32], d: Distances, first: usize, count: usize, list: &mut [u8])
+    requires { ⌜ (first + count ≤ length (now heights)) × (length (now heights) ≤ length (now list)) × (length (now heights) ≤ greatestList) ⌝ }
+    requires { ⌜ (d .stopping ≤ greatestFarthest) × (d .decision ≤ greatestFarthest) ⌝ }
+    ensures { λ _. ⌜ now (list .exit) ≡ filled (markOf (now (heights .entry)) d) first count (now (list .entry)) ⌝ }
 {
-    let mut i = heights.len();
-    while i > 0 {
+    let mut i = first + count;
+    while i > first {
         i -= 1;
-        list[i] = mark_of(heights, stopping, decision, i);
+        list[i] = mark_of(heights, d, i);
     }
 }
 
@@ -86,58 +84,14 @@ pub fn marks(speed: u32, purpose: u32, heights: &[i32], list: &mut [u8]) -> Answ
     ensures answer { λ r. ⌜ r ≡ marksAnswer speed purpose (now (heights .entry)) (now (list .entry)) ⌝ }
     ensures list { λ _. ⌜ now (list .exit) ≡ marksList speed purpose (now (heights .entry)) (now (list .entry)) ⌝ }
 {
-    if terms::outside(terms::LEAST_SPEED, terms::GREATEST_SPEED, speed) {
-        return Answer::Refused(terms::SPEED_REFUSED);
-    }
-    if terms::outside(terms::FIRST_DECISION, terms::LAST_PURPOSE, purpose) {
-        return Answer::Refused(terms::PURPOSE_REFUSED);
-    }
-    if terms::list_outside(heights.len()) {
-        return Answer::Refused(terms::LIST_REFUSED);
-    }
-    if list.len() < heights.len() {
-        return Answer::Refused(terms::ROOM_REFUSED);
-    }
-    let stopping = terms::value_or_zero(distance::required_distance(
-        speed,
-        terms::STOPPING_PURPOSE,
-    ));
-    let decision = terms::value_or_zero(distance::required_distance(speed, purpose));
-    fill_marks(heights, stopping, decision, list);
-    Answer::Number(heights.len() as u32)
-}
-
-// Marks the stations of an accepted road, by its own heights, speed and purpose.
-fn mark_road(road: Road, list: &mut [u8])
-    requires { ⌜ (roadVerdict road ≡ Accepted) × (road .length + 1 ≤ length (now list)) ⌝ }
-    ensures { λ _. ⌜ now (list .exit) ≡ filled (markFor (road .speed) (road .purpose) (ownHeights road)) 0 (road .length + 1) (now (list .entry)) ⌝ }
-{
-    let mut heights = [0i32; terms::GREATEST_LIST];
-    heights::heights(road, &mut heights);
-    let stations = road.length as usize + 1;
-    marks(
-        road.speed as u32,
-        road.purpose as u32,
-        &heights[..stations],
-        list,
-    );
-}
-
-// Marks a road file.
-pub fn mark_road_file(file: &[u8], list: &mut [u8]) -> Answer
-    ensures answer { λ r. ⌜ r ≡ markFileAnswer (now (file .entry)) (now (list .entry)) ⌝ }
-    ensures list { λ _. ⌜ now (list .exit) ≡ markFileList (now (file .entry)) (now (list .entry)) ⌝ }
-{
-    let read = file::read(file);
-    let verdict = read.verdict;
-    if let Verdict::Fault(number) = verdict {
+    let stations = heights.len();
+    if let Verdict::Fault(number) = verdicts::marks_verdict(speed, purpose, stations) {
         return Answer::Refused(number);
     }
-    let road = read.road;
-    let stations = road.length + 1;
-    if list.len() < stations as usize {
+    if list.len() < stations {
         return Answer::Refused(terms::ROOM_REFUSED);
     }
-    mark_road(road, list);
-    Answer::Number(stations)
+    let needed = distance::distances_for(speed, purpose);
+    fill_marks(heights, needed, 0, stations, list);
+    Answer::Number(stations as u32)
 }

@@ -1,10 +1,10 @@
-// What the survey van's Rust program calls (document 01, "The lister"): functions on numbers and byte slices. An answer is
+// What the survey van's Rust program calls (docs/RULES.md, "The lister"): functions on numbers and byte slices. An answer is
 // a signed 32-bit number, and a refusal is minus its number.
 ghost use mathlib.Core.Path.{_≡_};
 ghost use Rattle.terms.specs.Answers.{signed};
 ghost use Rattle.distance.specs.Distance.{requiredDistance};
 ghost use Rattle.crest.specs.Crest.{crestLength};
-ghost use Rattle.marks.specs.RoadFile.{markFileAnswer, markFileList};
+ghost use Rattle.road_marks.specs.RoadMarks.{markFileAnswer, markFileList};
 
 #[no_mangle]
 pub extern "C" fn vcp_required_distance(speed: u32, purpose: u32) -> i32
@@ -25,5 +25,5 @@ pub extern "C" fn vcp_mark_road_file(file: &[u8], marks: &mut [u8]) -> i32
     ensures answer { λ r. ⌜ r ≡ signed (markFileAnswer (now (file .entry)) (now (marks .entry))) ⌝ }
     ensures list { λ _. ⌜ now (marks .exit) ≡ markFileList (now (file .entry)) (now (marks .entry)) ⌝ }
 {
-    terms::signed_answer(marks::mark_road_file(file, marks)) as i32
+    terms::signed_answer(road_marks::mark_road_file(file, marks)) as i32
 }

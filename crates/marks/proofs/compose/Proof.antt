@@ -1,6 +1,7 @@
--- `compose` meets its contract: no two of the five bits meet, so that joined they are their sum.
+-- `compose` meets its contract: the bits are joined one by one, from the lowest on.
+use native.Mathlib.Omega.{arith}
 use borrow.Author.Needs.{needs}
-use Rattle.marks.proofs.Mark.{joined-sum}
+use Rattle.marks.proofs.Bits.{lowest, join-bit}
 use Rattle.marks.proofs.compose.Statement.{statement}
 use Rattle.marks.proofs.compose.Tie as tie
 
@@ -22,7 +23,9 @@ cast-result-5 c = search needs
 returns : tie.Need-returns
 returns c =
     let a = c .args in
-    joined-sum (a .stopping-lacking) (a .decision-lacking) (a .reduced) (a .stopping-unjudged) (a .decision-unjudged)
+    let two = join-bit 1 (a .decision-lacking) (omega arith) (lowest (a .stopping-lacking)) in
+    let four = join-bit 3 (a .stopping-unjudged) (omega arith) (join-bit 2 (a .reduced) (omega arith) two) in
+    join-bit 4 (a .decision-unjudged) (omega arith) four .0
 
 pub compose-spec : {M : Type 1} → statement M
 compose-spec =

@@ -1,5 +1,5 @@
--- `fill_marks` meets its contract. The invariant: the places from `i` on are filled, the list is as long as it was. The
--- measure is the number of stations left.
+-- `fill_marks` meets its contract. The invariant: the places of the stretch from `i` on are filled, the list is as long as it
+-- was. The measure is the last station that is left.
 use mathlib.Core.Path.{_≡_, refl}
 use Prim.Native.Nat.{_+_, _-_, _≤_}
 use native.Mathlib.Omega.{arith}
@@ -12,17 +12,19 @@ use Rattle.marks.proofs.fill_marks.Statement.{statement}
 use Rattle.marks.proofs.fill_marks.Tie as tie
 
 abbrev Inv-loop : tie.InvT-loop
-Inv-loop heights stopping decision list₀ i₀ list i =
-    (i ≤ length heights) × (length list ≡ length list₀)
-    × (list ≡ filled (markOf heights stopping decision) i (length heights - i) list₀)
+Inv-loop heights d first count list₀ i₀ list i =
+    (first ≤ i) × (i ≤ first + count) × (length list ≡ length list₀) × (list ≡ filled (markOf heights d) i (first + count - i) list₀)
 
 abbrev μ-loop : tie.MeasureT-loop
-μ-loop heights stopping decision list₀ i₀ list i = i
+μ-loop heights d first count list₀ i₀ list i = i
+
+add-i : tie.Need-add-i Inv-loop μ-loop
+add-i c = search needs
 
 loop-holds : tie.Need-loop-holds Inv-loop μ-loop
 loop-holds c =
-    let n = length (c .before .args .heights .now) in
-    (omega arith, refl, filled-to _ n 0 (n - n) _ _ (omega arith) (filled-none _ _ _))
+    let a = c .before .args in let end = a .first + a .count in
+    (omega arith, omega arith, refl, filled-to _ end 0 (end - end) _ _ (omega arith) (filled-none _ _ _))
 
 sub-i : tie.Need-sub-i Inv-loop μ-loop
 sub-i c = search needs
@@ -39,11 +41,12 @@ loop-less c = search needs
 loop-again : tie.Need-loop-again Inv-loop μ-loop
 loop-again c =
     let l = c .before .before .loop in
-    let n = length (c .before .before .before .before .args .heights .now) in (
+    let a = c .before .before .before .before .args in let end = a .first + a .count in (
+      omega arith,
       omega arith,
       search needs,
-      filled-to _ (l .i - 1) (n - l .i + 1) _ _ _ (omega arith)
-          (filled-front _ (l .i - 1) (n - l .i) (l .i) _ _ _ (omega arith) (l .inv .2) (c .mark-of .ensures)),
+      filled-to _ (l .i - 1) (end - l .i + 1) _ _ _ (omega arith)
+          (filled-front _ (l .i - 1) (end - l .i) (l .i) _ _ _ (omega arith) (l .inv .3) (c .mark-of .ensures)),
     )
 
 same-length : tie.Need-same-length Inv-loop μ-loop
@@ -52,9 +55,9 @@ same-length c = search needs
 returns : tie.Need-returns Inv-loop μ-loop
 returns c =
     let l = c .before .loop in
-    let n = length (c .before .before .before .args .heights .now) in
-    let z : l .i ≡ 0 = omega arith in
-    filled-to _ 0 (n - 0) n _ _ (omega arith) (rw z at (l .inv .2))
+    let a = c .before .before .before .args in
+    let all : l .i ≡ a .first = omega arith in
+    filled-to _ (a .first) (a .first + a .count - a .first) (a .count) _ _ (omega arith) (rw all at (l .inv .3))
 
 pub fill-marks-spec : {M : Type 1} → statement M
 fill-marks-spec =
@@ -62,6 +65,7 @@ fill-marks-spec =
     (tie.spec
     Inv-loop
     μ-loop
+    add-i
     loop-holds
     sub-i
     mark-of-requires

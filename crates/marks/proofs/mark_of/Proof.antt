@@ -18,8 +18,14 @@ use Rattle.marks.proofs.mark_of.Tie as tie
 sub-last : tie.Need-sub-last
 sub-last c = search needs
 
+cast-stopping-judged : tie.Need-cast-stopping-judged
+cast-stopping-judged c = search needs
+
 add-stopping-judged : tie.Need-add-stopping-judged
 add-stopping-judged c = search needs
+
+cast-decision-judged : tie.Need-cast-decision-judged
+cast-decision-judged c = search needs
 
 add-decision-judged : tie.Need-add-decision-judged
 add-decision-judged c = search needs
@@ -36,31 +42,34 @@ value-or-zero-requires c κs = search needs
 compose-requires : tie.Need-compose-requires
 compose-requires c κs = search needs
 
-larger-is : (c : tie.Joined1) → let a = c .before .args in
-    (a .stopping ≤ c .if1 .larger) × (a .decision ≤ c .if1 .larger) × (c .if1 .larger ≤ greatestFarthest)
+larger-is : (c : tie.Joined1) → let d = c .before .args .d in
+    (d .stopping ≤ c .if1 .larger) × (d .decision ≤ c .if1 .larger) × (c .if1 .larger ≤ greatestFarthest)
 larger-is c = ⊎-elim (λ w. omega arith) (λ w. omega arith) (c .if1 .came)
 
 searched : (c : tie.Joined2) → let a = c .before .before .args in
-    T (judged (a .heights .now) (a .stopping) (a .i) || judged (a .heights .now) (a .decision) (a .i)) →
+    T (judged (a .heights .now) (a .d .stopping) (a .i) || judged (a .heights .now) (a .d .decision) (a .i)) →
     c .if2 .s ≡ availableSight (a .heights .now) (a .i) eyeHeight objectHeight (c .before .if1 .larger)
 searched c t =
-    let b = c .before .before in let far = larger-is (c .before) .2 in
+    let b = c .before .before in
     ⊎-elim
-    (λ w. w .3 ∙ w .2 .ensures ∙ ap valueOrZero (w .1 .ensures) ∙ sight-value _ _ _ (b .pre .0 .0) (b .pre .0 .1) far)
+    (λ w. w .3 ∙ w .2 .ensures ∙ ap valueOrZero (w .1 .ensures)
+    ∙ sight-value _ _ _ _ _ (b .pre .0 .0) (b .pre .0 .1) (omega arith) (omega arith) (larger-is (c .before) .2))
     (λ w. absurd (rw (w .0 .left) at t))
     (c .if2 .came)
 
 returns : tie.Need-returns
 returns c =
     let far = larger-is (c .before .before) in
-    c .compose .ensures ∙ mark-by-sight _ _ _ _ _ (c .before .if2 .s) (far .0) (far .1) (searched (c .before))
+    c .compose .ensures ∙ mark-by-sight _ _ _ _ (c .before .if2 .s) (far .0) (far .1) (searched (c .before))
 
 pub mark-of-spec : {M : Type 1} → statement M
 mark-of-spec =
     tie.close
     (tie.spec
     sub-last
+    cast-stopping-judged
     add-stopping-judged
+    cast-decision-judged
     add-decision-judged
     cast-sight
     sight-requires

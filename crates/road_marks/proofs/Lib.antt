@@ -1,0 +1,2 @@
+pub mod OwnMarks
+pub mod Small
