@@ -1,11 +1,11 @@
 -- `vcp_required_distance` meets its contract: the operation's answer is small, so it keeps its value in 32 bits.
 use mathlib.Core.Path.{ap, _∙_}
-use native.Mathlib.Omega.{arith}
 use borrow.Author.Needs.{needs}
 use Rattle.terms.specs.Answers.{signed}
+use Rattle.terms.specs.declared.Answer.{Answer}
 use Rattle.distance.specs.Distance.{requiredDistance}
 use Rattle.distance.proofs.Laws.{required-at-most}
-use Rattle.van.proofs.Narrow.{narrow-fits, narrow-same}
+use Rattle.van.proofs.Narrow.{Narrows, narrows}
 use Rattle.van.proofs.vcp_required_distance.Statement.{statement}
 use Rattle.van.proofs.vcp_required_distance.Tie as tie
 
@@ -15,17 +15,21 @@ required-distance-requires c κs = search needs
 signed-answer-requires : tie.Need-signed-answer-requires
 signed-answer-requires c κs = search needs
 
-cast-result : tie.Need-cast-result
-cast-result c =
+-- what is asked for
+abbrev asked : tie.After-signed-answer → Answer
+asked c = let x = c .before .before .args in requiredDistance (x .speed) (x .purpose)
+
+narrow : (c : tie.After-signed-answer) → Narrows (c .signed-answer .result) (asked c)
+narrow c =
     let x = c .before .before .args in
-    narrow-fits _ (c .signed-answer .ok) (requiredDistance (x .speed) (x .purpose)) 725 (omega arith) (required-at-most (x .speed) (x .purpose))
+    narrows 725 _ (asked c) (required-at-most (x .speed) (x .purpose)) tt (c .signed-answer .ok)
     (c .signed-answer .ensures ∙ ap signed (c .before .required-distance .ensures))
 
+cast-result : tie.Need-cast-result
+cast-result c = narrow c .0
+
 returns : tie.Need-returns
-returns c =
-    let x = c .before .before .args in
-    narrow-same _ (c .signed-answer .ok) (requiredDistance (x .speed) (x .purpose)) 725 (omega arith) (required-at-most (x .speed) (x .purpose))
-    (c .signed-answer .ensures ∙ ap signed (c .before .required-distance .ensures))
+returns c = narrow c .1
 
 pub vcp-required-distance-spec : {M : Type 1} → statement M
 vcp-required-distance-spec = tie.close (tie.spec required-distance-requires signed-answer-requires cast-result returns)
