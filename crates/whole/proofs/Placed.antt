@@ -2,7 +2,7 @@
 -- join.
 use mathlib.Core.Path.{_≡_, refl, ap, _∙_}
 use mathlib.Core.List.{List, [], _∷_, _++_}
-use Prim.Native.Nat.{ℕ, suc, _+_, _-_}
+use Prim.Native.Nat.{ℕ, suc, _+_, _-_, _≤_}
 use native.Mathlib.Omega.{arith}
 use lib.ListN.{length, getD, set, take, length-append, length-set}
 use lib.Seq.{length-take-le, ext-getD}
@@ -64,15 +64,19 @@ wrote-filled {bytes} {xs} p =
     (λ k l r. let e : k - 0 ≡ k = omega arith in rw e refl)
 
 -- the front of what was written is the text
+pub take-filled : {A : Type 0} (z : A) (l xs : List A) → length l ≤ length xs →
+    take (length l) (filled (λ k. getD l k z) 0 (length l) xs) ≡ l
+take-filled {A} z l xs h =
+    let n = length l in let f : ℕ → A = λ k. getD l k z in
+    let front = length-take-le n xs h in let long = filled-length f 0 n (take n xs) in
+    filled-take f 0 n n xs (omega arith)
+    ∙ ext-getD z (filled f 0 n (take n xs)) l (omega arith)
+    (λ k u. filled-at f 0 n (take n xs) k z (omega arith) (omega arith) (omega arith))
+
 pub wrote-front : {bytes : List ℕ} {n : ℕ} {xs ys : List ℕ} → Room bytes 0 xs → Wrote bytes 0 n xs ys → take n ys ≡ bytes
-wrote-front {bytes} {n} {xs} {ys} r p =
-    let f : ℕ → ℕ = λ k. getD bytes k 0 in
+wrote-front {bytes} {n} {xs} r p =
     let all : n ≡ length bytes = omega (arith, p .behind) in
-    let front = length-take-le n xs (omega (arith, r .fits)) in
-    let same : take n ys ≡ filled f 0 n (take n xs) = rw (wrote-filled p, ← all) (filled-take f 0 n n xs (omega arith)) in
-    let long = filled-length f 0 n (take n xs) in
-    same ∙ ext-getD 0 (filled f 0 n (take n xs)) bytes (omega arith)
-    (λ k l. filled-at f 0 n (take n xs) k 0 (omega arith) (omega arith) (omega arith))
+    rw (all, wrote-filled p) (take-filled 0 bytes xs (omega (arith, r .fits)))
 
 pub wrote-length : {bytes : List ℕ} {at n : ℕ} {xs ys : List ℕ} → Wrote bytes at n xs ys → length ys ≡ length xs
 wrote-length {bytes} {at} {xs} p = ap length (p .text) ∙ placed-length bytes at xs

@@ -1,0 +1,4 @@
+pub mod Numbers
+pub mod FileBack
+pub mod RoadBack
+pub mod RoundTrip
