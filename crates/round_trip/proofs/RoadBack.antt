@@ -1,6 +1,5 @@
 -- The road in the bytes of an accepted road is that road: each of its numbers fits its place, so its bytes give it back.
 use mathlib.Core.Path.{_≡_, refl, sym, ap, _∙_}
-use mathlib.Core.List.{List, [], _∷_}
 use mathlib.Core.Logic.{⊎-elim}
 use Prim.Native.Nat.{ℕ, zero, suc, _+_, _^_, _≤_, _<_}
 use native.Mathlib.Nat.{eq-or-lt-of-le}
@@ -18,10 +17,9 @@ use Rattle.whole.proofs.Range.{fits-by, range-size}
 use Rattle.whole.proofs.Twos.{bits-below}
 use Rattle.terms.specs.Limits.{greatestCurveCount, greatestGrade, lowestStart, highestStart}
 use Rattle.terms.specs.declared.Verdict.the-variants.{Accepted}
-use Rattle.road.specs.declared.Curve.{Curve}
 use Rattle.road.specs.declared.Road.{Road}
-use Rattle.road.specs.Road.{end, noCurve, curvesOf, curvesVerdict, roadVerdict}
-use Rattle.road.proofs.Accepted.{SoundCurve, accepted-curves, accepted-road}
+use Rattle.road.specs.Road.{noCurve, curvesOf, roadVerdict}
+use Rattle.road.proofs.Accepted.{accepted-road, accepted-curve-at}
 use Rattle.file.specs.File.{byteAt, numberAt, fileLength, curveCount, lettersNumber, version, curveAt, roadIn}
 use Rattle.file.proofs.Sound.{SoundFile}
 use Rattle.writing.specs.Bytes.{bytesOf, headerBytes, curveBytes, fileFront, fileBytes}
@@ -64,23 +62,15 @@ grade-fits z l h = fits-by record { b = greatestGrade; ok = range-size {a = grea
 start-fits : (z : ℤ) → lowestStart ≤ℤ z → z ≤ℤ highestStart → SFits w32 z
 start-fits z l h = fits-by record { b = natAbs highestStart; ok = range-size {a = natAbs lowestStart} z (omega arith) l h } tt
 
--- each of some accepted curves is sound, wherever the one before it ends
-sound-at : (n last : ℕ) (cs : List Curve) (i : ℕ) → curvesVerdict n last cs ≡ Accepted → i < length cs →
-    (before : ℕ) × SoundCurve n before (getD cs i noCurve)
-sound-at n last [] i e h = absurd (omega arith)
-sound-at n last (c ∷ cs) zero e h = (last, accepted-curves n last c cs e .0)
-sound-at n last (c ∷ cs) (suc i) e h = sound-at n (end c) cs i (accepted-curves n last c cs e .1) (omega arith)
-
 module _ (r : Road) (holds : r .count ≤ length (r .curves)) (ok : roadVerdict r ≡ Accepted) where
   curve-back : (i : ℕ) → i < r .count → curveAt (fileBytes r) i ≡ getD (curvesOf r) i noCurve
   unfolding curveAt curveBytes numberAt
   curve-back i h =
       let road = accepted-road r ok in
-      let used = length-take-le (r .count) (r .curves) holds in
       let same = getD-take (r .count) (r .curves) i noCurve h in
       let c = getD (r .curves) i noCurve in
-      let s : SoundCurve (r .length) _ c = rw same at (sound-at (r .length) 0 (curvesOf r) i (road .curves) (omega arith) .1) in
-      let g = grade-fits (c .«grade_out») (s .grade-low) (s .grade-high) in
+      let sound = accepted-curve-at r ok holds i noCurve h in
+      let g = grade-fits (c .«grade_out») (sound .1 .grade-low) (sound .1 .grade-high) in
       let pvi = record-number r i 0 2 (c .pvi) (fileLength i) (omega arith) h (omega arith) (omega (arith, road .length-high)) refl in
       let size = record-number r i 2 2 (c .length) (fileLength i + 2) refl h (omega arith) (omega arith) refl in
       let grade = record-number r i 4 2 (ofZ w16 (c .«grade_out»)) (fileLength i + 4) refl h (omega arith) (bits-below g) refl in
