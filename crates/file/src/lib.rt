@@ -34,9 +34,9 @@ const FIRST_GRADE_AT: usize = 13;
 
 const COUNT_AT: usize = 15;
 
-pub const HEADER_BYTES: usize = 16;
+const HEADER_BYTES: usize = 16;
 
-pub const CURVE_BYTES: usize = 6;
+const CURVE_BYTES: usize = 6;
 
 // One byte more than the longest road file has. It is enough to read: a longer file is refused as its first so many bytes are.
 pub const ENOUGH_BYTES: usize = HEADER_BYTES + CURVE_BYTES * road::CURVE_PLACES + 1;
