@@ -31,14 +31,13 @@ accepted-header s e =
     let short = fault-accepted (ltb (length s) (fileLength 0)) shortFileRefused _ e in
     let spelled = fault-accepted (not (eqb (numberAt s 0 3) lettersNumber)) lettersRefused _ (short .1) in
     let versions = fault-accepted (not (eqb (numberAt s 3 2) version)) versionRefused _ (spelled .1) in
-    let count = fault-accepted (ltb greatestCurveCount (curveCount s)) curveCountRefused _ (versions .1) in
-    let total = fault-accepted (not (eqb (length s) (fileLength (curveCount s)))) totalRefused _ (count .1) in
-    record {
-      spelled = no-difference (numberAt s 0 3) lettersNumber (spelled .0);
-      first-version = no-difference (numberAt s 3 2) version (versions .0);
-      count = nltb→le greatestCurveCount (curveCount s) (count .0);
-      total = no-difference (length s) (fileLength (curveCount s)) (total .0);
-    }
+    let many = fault-accepted (ltb greatestCurveCount (curveCount s)) curveCountRefused _ (versions .1) in
+    let longer = fault-accepted (not (eqb (length s) (fileLength (curveCount s)))) totalRefused _ (many .1) in
+    let v = no-difference (numberAt s 0 3) lettersNumber (spelled .0) in
+    let w = no-difference (numberAt s 3 2) version (versions .0) in
+    let n = nltb→le greatestCurveCount (curveCount s) (many .0) in
+    let t = no-difference (length s) (fileLength (curveCount s)) (longer .0) in
+    search
 
 -- ---- the file: its header, and the road in it
 pub record SoundFile (s : List ℕ) : Type 0 where

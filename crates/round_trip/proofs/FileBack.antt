@@ -1,6 +1,6 @@
 -- The road in a sound file has just the file's bytes: each of its numbers has the bytes that it was read from, and one behind the
 -- other these make the file.
-use mathlib.Core.Path.{_≡_, refl, sym, ap, _∙_}
+use mathlib.Core.Path.{_≡_, sym, ap, _∙_}
 use mathlib.Core.List.{List, _++_}
 use Prim.Native.Nat.{ℕ, zero, suc, _+_, _≤_, _<_}
 use native.Mathlib.Omega.{arith}

@@ -78,17 +78,11 @@ module _ (r : Road) (holds : r .count ≤ length (r .curves)) (ok : roadVerdict 
 
   pub cleared-same : SameRoad (cleared r) r
   unfolding cleared
-  cleared-same = record {
-    speed = refl;
-    purpose = refl;
-    length = refl;
-    start = refl;
-    grade = refl;
-    count = refl;
-    curves =
-        let used = length-take-le (r .count) (r .curves) holds in
-        rw used at (take-filled noCurve (curvesOf r) (replicate greatestCurveCount noCurve) (omega (arith, accepted-road r ok .count, length-replicate greatestCurveCount noCurve)));
-  }
+  cleared-same =
+      let used = length-take-le (r .count) (r .curves) holds in
+      let places = length-replicate greatestCurveCount noCurve in
+      let curves = rw used at (take-filled noCurve (curvesOf r) (replicate greatestCurveCount noCurve) (omega (arith, accepted-road r ok .count))) in
+      search
 
   -- the tests of a road see only its numbers and its first n curves
   same-verdict : roadVerdict (cleared r) ≡ roadVerdict r

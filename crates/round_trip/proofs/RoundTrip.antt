@@ -17,7 +17,7 @@ use Rattle.file.proofs.Sound.{accepted-file, sound-file, read-by, verdict-read}
 use Rattle.writing.specs.Bytes.{fileBytes}
 use Rattle.writing.specs.Writing.{writeAnswer, writeList}
 use Rattle.writing.proofs.Bytes.{front-length}
-use Rattle.round_trip.specs.RoundTrip.{ReadThenWritten, WrittenThenRead, cleared}
+use Rattle.round_trip.specs.RoundTrip.{ReadThenWritten, WrittenThenRead}
 use Rattle.round_trip.proofs.FileBack.{file-back}
 use Rattle.round_trip.proofs.RoadBack.{cleared-same, road-back, road-sound}
 

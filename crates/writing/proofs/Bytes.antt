@@ -2,9 +2,8 @@
 use mathlib.Core.Path.{_≡_, refl, ap}
 use Prim.Native.Nat.{ℕ, zero, suc, _/_}
 use native.Mathlib.Omega.{arith}
-use lib.ListN.{length, getD, length-append}
+use lib.ListN.{length, length-append}
 use Rattle.road.specs.declared.Road.{Road}
-use Rattle.road.specs.Road.{noCurve}
 use Rattle.file.specs.File.{fileLength}
 use Rattle.writing.specs.Bytes.{bytesOf, headerBytes, curveBytes, fileFront}
 

@@ -1,7 +1,7 @@
 -- `number_at` meets its contract: from the highest byte down. The invariant: the number is that of the bytes from place `at + k` on.
 -- The measure is k.
 use mathlib.Core.Path.{_≡_, refl}
-use Prim.Native.Nat.{_+_, _*_, _-_, _^_, _≤_, _<_, suc}
+use Prim.Native.Nat.{suc, _+_, _-_, _^_, _≤_, _<_}
 use native.Mathlib.Nat.{pow-le-pow-right}
 use native.Mathlib.Omega.{arith}
 use borrow.Author.Needs.{needs}
