@@ -1,4 +1,4 @@
 pub mod Front
 pub mod Lent
 pub mod Longest
-pub mod Joined
+pub mod Put

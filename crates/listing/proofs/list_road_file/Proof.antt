@@ -1,83 +1,78 @@
 -- `list_road_file` meets its contract: the array has room for any listing (`listing-at-most`), its front is this one
 -- (`wrote-front`), and its length decides between the refusal and the text.
-use Prim.Native.Nat.{ℕ, _≤_, _<_}
+use Prim.Native.Nat.{ℕ, _≤_}
 use mathlib.Core.Path.{_≡_, refl, sym}
 use mathlib.Core.List.{List}
 use borrow.Author.Needs.{needs}
-use borrow.Author.Tests.{lt-ltb, le-ltb}
 use native.Mathlib.Omega.{arith}
-use lib.ListN.{length, take, replicate, length-replicate}
+use lib.ListN.{length, take, replicate, getD, length-replicate}
 use lib.Seq.{length-take-le}
 use Rattle.whole.specs.Placed.{Room, Wrote}
-use Rattle.whole.proofs.Placed.{wrote-filled, wrote-front}
-use Rattle.terms.specs.Refusals.{roomRefused}
-use Rattle.terms.specs.declared.Answer.the-variants.{Number, Refused}
-use Rattle.terms.proofs.Laws.{written-refused, written-number}
+use Rattle.whole.proofs.Placed.{wrote-length, wrote-filled, wrote-front}
+use Rattle.terms.specs.declared.Verdict.the-variants.{Accepted}
+use Rattle.terms.proofs.Laws.{ends-no-room, ends-filled}
 use Rattle.listing.specs.Listing.{listing, listAnswer, listBuffer}
 use Rattle.listing.proofs.Longest.{greatestListing, listing-at-most}
+use Rattle.listing.proofs.Put.{put-all}
 use Rattle.listing.proofs.list_road_file.Statement.{statement}
 use Rattle.listing.proofs.list_road_file.Tie as tie
 
--- ---- the two ways it answers, by the length of the listing
-module _ (file text : List ℕ) (n : ℕ) (all : n ≡ length (listing file)) where
-  refused : length text < n → (Refused roomRefused ≡ listAnswer file text) × (text ≡ listBuffer file text)
-  unfolding listAnswer listBuffer
-  refused l = written-refused _ (listAnswer file text) text roomRefused (rw (← all, lt-ltb (length text) n l) refl)
-
-  listed : (out : List ℕ) {m : ℕ} → n ≤ length text → Wrote (listing file) 0 m text out →
-      (Number n ≡ listAnswer file text) × (out ≡ listBuffer file text)
-  unfolding listAnswer listBuffer
-  listed out l w =
-      written-number _ (listAnswer file text) text n out (rw (← all, le-ltb (length text) n l) refl) (rw all (wrote-filled w))
-
 -- ---- what was written aside
+abbrev text : tie.After-write-listing → List ℕ
+text w = listing (w .before .before .before .before .args .file .now)
+
 room : (file : List ℕ) → Room (listing file) 0 (replicate greatestListing 0)
 room file = record { fits = omega (arith, listing-at-most file, length-replicate {A = ℕ} greatestListing 0) }
 
-all : (c : tie.After-write-listing) → c .write-listing .result ≡ length (listing (c .before .before .before .before .args .file .now))
-all c = omega (arith, c .write-listing .ensures .behind)
+aside : (w : tie.After-write-listing) → Wrote (text w) 0 (w .write-listing .result) (replicate greatestListing 0) (w .write-listing .last .1 .0)
+aside w = put-all (w .write-listing .ensures) (room _)
 
-front : (c : tie.After-write-listing) →
-    take (c .write-listing .result) (c .write-listing .last .1 .0) ≡ listing (c .before .before .before .before .args .file .now)
-front c = wrote-front (room _) (c .write-listing .ensures)
+front : (w : tie.After-write-listing) → take (w .write-listing .result) (w .write-listing .last .1 .0) ≡ text w
+front w = wrote-front (room _) (aside w)
+
+all : (w : tie.After-write-listing) → w .write-listing .result ≡ length (text w)
+all w = omega (arith, aside w .behind)
+
+small : (w : tie.After-write-listing) → w .write-listing .result ≤ greatestListing
+small w = rw (all w) (listing-at-most _)
 
 slice-aggregate-write-listing : tie.Need-slice-aggregate-write-listing
 slice-aggregate-write-listing c = sym (length-replicate {A = ℕ} _ 0)
 
 write-listing-requires : tie.Need-write-listing-requires
-write-listing-requires c κs = room _
+write-listing-requires c κs = search needs
 
 returns : tie.Need-returns
-returns c = refused _ _ _ (all (c .before .before)) (c .if1 .taken)
+unfolding listAnswer listBuffer
+returns c =
+    let w = c .before .before in
+    ends-no-room (λ k. getD (text w) k 0) Accepted (length (text w)) _ refl (omega (arith, aside w .behind, c .if1 .taken))
 
 array-share-prefix-whole : tie.Need-array-share-prefix-whole
 array-share-prefix-whole c =
     let w = c .before .before in
-    omega (arith, all w, listing-at-most (w .before .before .before .before .args .file .now), w .write-listing .kept .1 .0, length-replicate {A = ℕ} greatestListing 0)
+    omega (arith, small w, wrote-length (aside w), length-replicate {A = ℕ} greatestListing 0)
 
 slice-aggregate-write-word : tie.Need-slice-aggregate-write-word
 slice-aggregate-write-word c = sym (length-take-le _ _ (array-share-prefix-whole (c .before)))
 
 write-word-requires : tie.Need-write-word-requires
-write-word-requires c κs =
-    let left = c .before .before in
-    let w = left .before .before in
-    rw (front w) (record { fits = omega (arith, all w, left .if1 .left) })
+write-word-requires c κs = search needs
 
 cast-t13 : tie.Need-cast-t13
-cast-t13 c =
-    let w = c .before .before .before .before .before .before .before in
-    omega (arith, all w, listing-at-most (w .before .before .before .before .args .file .now))
+cast-t13 c = omega (arith, small (c .before .before .before .before .before .before .before))
 
 same-length : tie.Need-same-length
 same-length c = search needs
 
 returns-2 : tie.Need-returns-2
+unfolding listAnswer listBuffer
 returns-2 c =
-    let word = c .before .before in
-    let left = word .before .before .before in
+    let v = c .before .before in let left = v .before .before .before in
     let w = left .before .before in
-    listed _ _ _ (all w) _ (left .if1 .left) (rw (front w) at (word .write-word .ensures))
+    let fits : length (text w) ≤ length (w .before .before .before .before .args .text .now) = omega (arith, aside w .behind, left .if1 .left) in
+    let wrote = put-all (rw (front w) at (v .write-word .ensures)) (record { fits = omega arith }) in
+    rw (all w) (ends-filled (λ k. getD (text w) k 0) Accepted (length (text w)) _ _ refl fits (wrote-filled wrote))
 
 pub list-road-file-spec : {M : Type 1} → statement M
 list-road-file-spec =

@@ -1,14 +1,14 @@
 -- `write_digit` meets its contract, by the test of the definition.
 use borrow.Author.Tests.{lt-ltb, le-ltb}
 use borrow.Author.Needs.{needs}
-use Rattle.whole.proofs.Placed.{wrote-none}
 use Rattle.listing.specs.Listing.{digit}
+use Rattle.listing.proofs.Put.{put-none}
 use Rattle.listing.proofs.write_digit.Statement.{statement}
 use Rattle.listing.proofs.write_digit.Tie as tie
 
 returns : tie.Need-returns
 unfolding digit
-returns c = rw (lt-ltb _ _ (c .if1 .taken)) (wrote-none _ _)
+returns c = rw (lt-ltb _ _ (c .if1 .taken)) (put-none _ _)
 
 div-write-byte : tie.Need-div-write-byte
 div-write-byte c = search needs
@@ -20,8 +20,7 @@ add-write-byte : tie.Need-add-write-byte
 add-write-byte c = search needs
 
 write-byte-requires : tie.Need-write-byte-requires
-unfolding digit
-write-byte-requires c κs = rw (le-ltb _ _ (c .before .if1 .left)) at (c .before .before .before .pre .0)
+write-byte-requires c κs = search needs
 
 same-length : tie.Need-same-length
 same-length c = search needs

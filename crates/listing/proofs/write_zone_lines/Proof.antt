@@ -6,52 +6,59 @@ use mathlib.Core.List.{List}
 use borrow.Author.Needs.{needs}
 use native.Mathlib.Omega.{arith}
 use lib.ListN.{getD}
-use Rattle.whole.specs.Placed.{Wrote}
-use Rattle.whole.proofs.Placed.{wrote-length}
 use Rattle.listing.specs.Listing.{zoneLine, zoneLines}
-use Rattle.listing.proofs.Joined.{wrote-zero, wrote-turn, room-turn}
+use Rattle.listing.specs.Put.{Put}
+use Rattle.listing.proofs.Put.{put-zero, put-turn, put-length}
 use Rattle.listing.proofs.write_zone_lines.Statement.{statement}
 use Rattle.listing.proofs.write_zone_lines.Tie as tie
 
--- the line of zone k
-abbrev line : ℕ → List ℕ → ℕ → List ℕ
-line letter ends k = zoneLine letter (getD ends (2 * k) 0) (getD ends (2 * k + 1) 0)
+abbrev zone : ℕ → List ℕ → ℕ → List ℕ
+zone letter ends k = zoneLine letter (getD ends (2 * k) 0) (getD ends (2 * k + 1) 0)
 
 abbrev Inv-loop : tie.InvT-loop
-Inv-loop letter ends count text₀ at next₀ k₀ text next k = (k ≤ count) × Wrote (zoneLines letter ends k) at next text₀ text
+Inv-loop letter ends count text₀ at word next₀ k₀ text next k = (k ≤ count) × Put (zoneLines letter ends k) at next text₀ text
 
 abbrev μ-loop : tie.MeasureT-loop
-μ-loop letter ends count text₀ at next₀ k₀ text next k = count - k
+μ-loop letter ends count text₀ at word next₀ k₀ text next k = count - k
 
 loop-holds : tie.Need-loop-holds Inv-loop μ-loop
-loop-holds c = (omega arith, wrote-zero _ _ _)
+loop-holds c = (omega arith, put-zero _ _ _)
 
-mul-write-zone-line : tie.Need-mul-write-zone-line Inv-loop μ-loop
-mul-write-zone-line c = search needs
+mul-t11 : tie.Need-mul-t11 Inv-loop μ-loop
+mul-t11 c = search needs
 
-mul-write-zone-line-2 : tie.Need-mul-write-zone-line-2 Inv-loop μ-loop
-mul-write-zone-line-2 c = search needs
+mul-t12 : tie.Need-mul-t12 Inv-loop μ-loop
+mul-t12 c = search needs
 
-shared-slice-read-write-zone-line : tie.Need-shared-slice-read-write-zone-line Inv-loop μ-loop
-shared-slice-read-write-zone-line c = search needs
+shared-slice-read-t14 : tie.Need-shared-slice-read-t14 Inv-loop μ-loop
+shared-slice-read-t14 c = search needs
 
-mul-write-zone-line-3 : tie.Need-mul-write-zone-line-3 Inv-loop μ-loop
-mul-write-zone-line-3 c = search needs
+cast-t15 : tie.Need-cast-t15 Inv-loop μ-loop
+cast-t15 c = omega (arith, c .shared-slice-known2 .given (2 * c .before .before .loop .k))
 
-add-write-zone-line : tie.Need-add-write-zone-line Inv-loop μ-loop
-add-write-zone-line c = search needs
+mul-t16 : tie.Need-mul-t16 Inv-loop μ-loop
+mul-t16 c = search needs
 
-mul-write-zone-line-4 : tie.Need-mul-write-zone-line-4 Inv-loop μ-loop
-mul-write-zone-line-4 c = search needs
+add-t17 : tie.Need-add-t17 Inv-loop μ-loop
+add-t17 c = search needs
 
-shared-slice-read-write-zone-line-2 : tie.Need-shared-slice-read-write-zone-line-2 Inv-loop μ-loop
-shared-slice-read-write-zone-line-2 c = search needs
+mul-t18 : tie.Need-mul-t18 Inv-loop μ-loop
+mul-t18 c = search needs
 
-write-zone-line-requires : tie.Need-write-zone-line-requires Inv-loop μ-loop
-write-zone-line-requires c κs =
-    let h = c .before .before .before .before in
-    let s = h .before .before .before in
-    room-turn (line (s .args .letter) (s .args .ends .now)) (s .pre .0) (omega arith) (h .loop .inv .1)
+shared-slice-read-t20 : tie.Need-shared-slice-read-t20 Inv-loop μ-loop
+shared-slice-read-t20 c = search needs
+
+cast-t21 : tie.Need-cast-t21 Inv-loop μ-loop
+cast-t21 c = omega (arith, c .shared-slice-known3 .given (2 * c .before .before .before .loop .k + 1))
+
+slice-aggregate-write-line : tie.Need-slice-aggregate-write-line Inv-loop μ-loop
+slice-aggregate-write-line c = search needs
+
+slice-aggregate-write-line-2 : tie.Need-slice-aggregate-write-line-2 Inv-loop μ-loop
+slice-aggregate-write-line-2 c = search needs
+
+write-line-requires : tie.Need-write-line-requires Inv-loop μ-loop
+write-line-requires c κs = search needs
 
 add-k : tie.Need-add-k Inv-loop μ-loop
 add-k c = search needs
@@ -61,13 +68,12 @@ loop-less c = search needs
 
 loop-again : tie.Need-loop-again Inv-loop μ-loop
 loop-again c =
-    let w = c .before .before in
-    let h = w .before .before .before .before .before in
+    let w = c .before .before in let h = w .before .before .before .before .before .before .before in
     let a = h .before .before .before .args in
-    (omega arith, wrote-turn (line (a .letter) (a .ends .now)) (h .loop .inv .1) (w .write-zone-line .ensures))
+    (omega arith, put-turn (zone (a .letter) (a .ends .now)) (h .loop .inv .1) (w .write-line .ensures))
 
 same-length : tie.Need-same-length Inv-loop μ-loop
-same-length c = wrote-length (c .before .loop .inv .1)
+same-length c = put-length (c .before .loop .inv .1)
 
 returns : tie.Need-returns Inv-loop μ-loop
 returns c =
@@ -81,14 +87,18 @@ write-zone-lines-spec =
     Inv-loop
     μ-loop
     loop-holds
-    mul-write-zone-line
-    mul-write-zone-line-2
-    shared-slice-read-write-zone-line
-    mul-write-zone-line-3
-    add-write-zone-line
-    mul-write-zone-line-4
-    shared-slice-read-write-zone-line-2
-    write-zone-line-requires
+    mul-t11
+    mul-t12
+    shared-slice-read-t14
+    cast-t15
+    mul-t16
+    add-t17
+    mul-t18
+    shared-slice-read-t20
+    cast-t21
+    slice-aggregate-write-line
+    slice-aggregate-write-line-2
+    write-line-requires
     add-k
     loop-less
     loop-again
