@@ -21,7 +21,7 @@ use Rattle.road.specs.Road.{roadVerdict}
 use Rattle.road.proofs.Accepted.{accepted-road}
 use Rattle.file.specs.File.{letters, roadIn, version}
 use Rattle.file.specs.Reading.{readRoad, readVerdict}
-use Rattle.file.proofs.Sound.{accepted-file, read-accepted, read-fault}
+use Rattle.file.proofs.Sound.{accepted-file, read-by}
 use Rattle.road_marks.specs.RoadMarks.{roadMark, markRoadAnswer, markRoadList}
 use Rattle.zones.specs.Zones.{zoneEnds, zoneCount}
 use Rattle.zones.proofs.Laws.{zones-at-most}
@@ -110,8 +110,8 @@ unfolding listing
 listing-at-most file = go (readVerdict file) refl
   where
     go : (v : Verdict) → readVerdict file ≡ v → length (textOf (readRoad file)) ≤ greatestListing
-    go Accepted e = rw (read-accepted file e) (road-at-most (roadIn file) (accepted-file file e .road))
-    go (Fault k) e = rw (read-fault file k e) (omega (arith, line-at-most refusedWord (k ∷ []) 6 (λ _. item-at-most _)))
+    go Accepted e = rw (read-by file Accepted e) (road-at-most (roadIn file) (accepted-file file e .road))
+    go (Fault k) e = rw (read-by file (Fault k) e) (omega (arith, line-at-most refusedWord (k ∷ []) 6 (λ _. item-at-most _)))
 
 -- what is answered is within the buffer
 pub list-answer-fits : (file buffer : List ℕ) → valueOrZero (listAnswer file buffer) ≤ length buffer

@@ -46,7 +46,7 @@ returns : tie.Need-returns
 unfolding listAnswer listBuffer
 returns c =
     let w = c .before .before in
-    ends-no-room (λ k. getD (text w) k 0) Accepted (length (text w)) _ refl (omega (arith, aside w .behind, c .if1 .taken))
+    ends-no-room (λ k. getD (text w) k 0) Accepted (length (text w)) _ refl (rw (all w) at (c .if1 .taken))
 
 array-share-prefix-whole : tie.Need-array-share-prefix-whole
 array-share-prefix-whole c =
@@ -70,7 +70,7 @@ unfolding listAnswer listBuffer
 returns-2 c =
     let v = c .before .before in let left = v .before .before .before in
     let w = left .before .before in
-    let fits : length (text w) ≤ length (w .before .before .before .before .args .text .now) = omega (arith, aside w .behind, left .if1 .left) in
+    let fits = rw (all w) at (left .if1 .left) in
     let wrote = put-all (rw (front w) at (v .write-word .ensures)) (record { fits = omega arith }) in
     rw (all w) (ends-filled (λ k. getD (text w) k 0) Accepted (length (text w)) _ _ refl fits (wrote-filled wrote))
 
