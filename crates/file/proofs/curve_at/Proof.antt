@@ -32,7 +32,11 @@ signed16-requires c κs = search needs
 
 returns : tie.Need-returns
 unfolding curveAt
-returns c = cc (got w16 (c .signed16 .result) (c .signed16 .ok))
+returns c =
+    let grade = c .before in
+    let size = grade .before in
+    let pvi = size .before in
+    rw (got w16 (c .signed16 .result) (c .signed16 .ok), c .signed16 .ensures, grade .number-at3 .ensures .0, size .number-at2 .ensures .0, pvi .number-at .ensures .0, pvi .before .file-length .ensures)
 
 pub curve-at-spec : {M : Type 1} → statement M
 curve-at-spec =

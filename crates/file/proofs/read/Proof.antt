@@ -31,7 +31,7 @@ returns c =
     let s = now (c .before .before .before .before .args .file) in
     let told = c .enum-told .given .1 in
     let faulty = sym (c .before .before .header-verdict .ensures) ∙ told in
-    cc (told, read-by s _ (ap (λ v. firstFault v (roadVerdict (roadIn s))) faulty))
+    rw told (sym (read-by s _ (ap (λ v. firstFault v (roadVerdict (roadIn s))) faulty)))
 
 enum-told-2 : tie.Need-enum-told-2
 enum-told-2 c = search needs
@@ -47,7 +47,7 @@ enum-told-3 c = search needs
 
 returns-2 : tie.Need-returns-2
 unfolding noRoad
-returns-2 c = let told = c .enum-told3 .given .1 in cc (told, read-by _ _ (past-header (c .before .before) ∙ told))
+returns-2 c = let told = c .enum-told3 .given .1 in rw told (sym (read-by _ _ (past-header (c .before .before) ∙ told)))
 
 enum-told-4 : tie.Need-enum-told-4
 enum-told-4 c = search needs
@@ -55,7 +55,7 @@ enum-told-4 c = search needs
 returns-3 : tie.Need-returns-3
 returns-3 c =
     let told = c .enum-told4 .given .1 in
-    cc (told, c .before .before .before .road-in .ensures, read-by _ _ (past-header (c .before .before) ∙ told))
+    rw (told, c .before .before .before .road-in .ensures) (sym (read-by _ _ (past-header (c .before .before) ∙ told)))
 
 pub read-spec : {M : Type 1} → statement M
 read-spec =

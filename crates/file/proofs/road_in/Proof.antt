@@ -39,9 +39,12 @@ shared-slice-read-t14 c = search needs
 returns : tie.Need-returns
 unfolding roadIn
 returns c =
-    let start = c .before .before .before .signed32 in
-    let grade = c .before .signed16 in
-    cc (got w32 (start .result) (start .ok), got w16 (grade .result) (grade .ok))
+    let grade = c .before in
+    let start = grade .before .before in
+    let length = start .before .before in
+    let g = grade .signed16 in
+    let s = start .signed32 in
+    rw (got w16 (g .result) (g .ok), g .ensures, grade .before .number-at3 .ensures .0, got w32 (s .result) (s .ok), s .ensures, start .before .number-at2 .ensures .0, length .number-at .ensures .0, length .before .before .before .curves-in .ensures)
 
 pub road-in-spec : {M : Type 1} → statement M
 road-in-spec =
