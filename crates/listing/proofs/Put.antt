@@ -10,7 +10,7 @@ use native.Mathlib.Omega.{arith}
 use lib.ListN.{length, set, length-append}
 use lib.Seq.{set-out}
 use Rattle.whole.specs.Placed.{placed, Room, Wrote}
-use Rattle.whole.proofs.Placed.{placed-length, wrote-join}
+use Rattle.whole.proofs.Placed.{placed-length, wrote-join, wrote-length}
 use Rattle.listing.specs.Listing.{joined}
 use Rattle.listing.specs.Put.{Put}
 
@@ -65,3 +65,6 @@ module _ (f : ℕ → List ℕ) where
 -- ---- with room for all
 pub put-all : {bytes : List ℕ} {at n : ℕ} {xs ys : List ℕ} → Put bytes at n xs ys → Room bytes at xs → Wrote bytes at n xs ys
 put-all p r = record { behind = omega arith; text = p .text }
+
+pub wrote-fits : {bytes : List ℕ} {at n : ℕ} {xs ys : List ℕ} → Room bytes at xs → Wrote bytes at n xs ys → n ≤ length ys
+wrote-fits r p = omega (arith, wrote-length p)

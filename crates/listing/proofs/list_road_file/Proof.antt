@@ -8,12 +8,12 @@ use native.Mathlib.Omega.{arith}
 use lib.ListN.{length, take, replicate, getD, length-replicate}
 use lib.Seq.{length-take-le}
 use Rattle.whole.specs.Placed.{Room, Wrote}
-use Rattle.whole.proofs.Placed.{wrote-length, wrote-filled, wrote-front}
+use Rattle.whole.proofs.Placed.{wrote-filled, wrote-front}
 use Rattle.terms.specs.declared.Verdict.the-variants.{Accepted}
 use Rattle.terms.proofs.Laws.{ends-no-room, ends-filled}
 use Rattle.listing.specs.Listing.{listing, listAnswer, listBuffer}
 use Rattle.listing.proofs.Longest.{greatestListing, listing-at-most}
-use Rattle.listing.proofs.Put.{put-all}
+use Rattle.listing.proofs.Put.{put-all, wrote-fits}
 use Rattle.listing.proofs.list_road_file.Statement.{statement}
 use Rattle.listing.proofs.list_road_file.Tie as tie
 
@@ -21,14 +21,14 @@ use Rattle.listing.proofs.list_road_file.Tie as tie
 abbrev text : tie.After-write-listing → List ℕ
 text w = listing (w .before .before .before .before .args .file .now)
 
-room : (file : List ℕ) → Room (listing file) 0 (replicate greatestListing 0)
-room file = record { fits = omega (arith, listing-at-most file, length-replicate {A = ℕ} greatestListing 0) }
+room : (file : List ℕ) (n : ℕ) → length (listing file) ≤ n → Room (listing file) 0 (replicate n 0)
+room file n l = record { fits = omega (arith, length-replicate {A = ℕ} n 0) }
 
 aside : (w : tie.After-write-listing) → Wrote (text w) 0 (w .write-listing .result) (replicate greatestListing 0) (w .write-listing .last .1 .0)
-aside w = put-all (w .write-listing .ensures) (room _)
+aside w = put-all (w .write-listing .ensures) (room _ _ (listing-at-most _))
 
 front : (w : tie.After-write-listing) → take (w .write-listing .result) (w .write-listing .last .1 .0) ≡ text w
-front w = wrote-front (room _) (aside w)
+front w = wrote-front (room _ _ (listing-at-most _)) (aside w)
 
 all : (w : tie.After-write-listing) → w .write-listing .result ≡ length (text w)
 all w = omega (arith, aside w .behind)
@@ -50,8 +50,7 @@ returns c =
 
 array-share-prefix-whole : tie.Need-array-share-prefix-whole
 array-share-prefix-whole c =
-    let w = c .before .before in
-    omega (arith, small w, wrote-length (aside w), length-replicate {A = ℕ} greatestListing 0)
+    let w = c .before .before in wrote-fits (room _ _ (listing-at-most _)) (aside w)
 
 slice-aggregate-write-word : tie.Need-slice-aggregate-write-word
 slice-aggregate-write-word c = sym (length-take-le _ _ (array-share-prefix-whole (c .before)))
