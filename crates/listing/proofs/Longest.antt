@@ -4,12 +4,11 @@ use Prim.Native.Nat.{ℕ, zero, suc, _+_, _*_, _/_, _%_, _≤_, _<_}
 use mathlib.Core.Path.{_≡_, refl, _∙_}
 use mathlib.Core.Bool.{Bool, true, false, cond}
 use mathlib.Core.List.{List, [], _∷_}
-use borrow.Author.Tests.{lt-ltb, ltb-false}
+use borrow.Author.Tests.{lt-ltb}
 use native.Mathlib.Omega.{arith}
 use lib.Dec.{ltb}
 use lib.ListN.{length, getD, replicate, length-append, length-replicate}
 use Rattle.whole.proofs.Table.{each-at}
-use Rattle.terms.specs.Answers.{valueOrZero}
 use Rattle.terms.specs.Limits.{greatestMarkedRoad}
 use Rattle.terms.specs.declared.Verdict.{Verdict}
 use Rattle.terms.specs.declared.Verdict.the-variants.{Accepted, Fault}
@@ -25,7 +24,7 @@ use Rattle.file.proofs.Sound.{accepted-file, read-by}
 use Rattle.road_marks.specs.RoadMarks.{roadMark, markRoadAnswer, markRoadList}
 use Rattle.zones.specs.Zones.{zoneEnds, zoneCount}
 use Rattle.zones.proofs.Laws.{zones-at-most}
-use Rattle.listing.specs.Listing.{joined, digit, item, line, refusedWord, firstLine, zoneLine, bitLetters, bitLines, ownMarks, roadText, textOf, listing, listAnswer}
+use Rattle.listing.specs.Listing.{joined, digit, item, line, refusedWord, firstLine, zoneLine, bitLetters, bitLines, ownMarks, roadText, textOf, listing, HoldsListings}
 
 -- ---- items
 digit-at-most : (p x : ℕ) → length (digit p x) ≤ 1
@@ -105,19 +104,10 @@ road-at-most r accepted =
     let zones = joined-at-most (bitLines (ownMarks r)) (14 * mostZones) (length bitLetters) (bit-at-most (ownMarks r) stations) in
     simp length-append (omega (arith, first-at-most (r .speed) (r .purpose) (omega (arith, sound .speed-high))))
 
-pub listing-at-most : (file : List ℕ) → length (listing file) ≤ greatestListing
+pub listing-at-most : HoldsListings greatestListing
 unfolding listing
 listing-at-most file = go (readVerdict file) refl
   where
     go : (v : Verdict) → readVerdict file ≡ v → length (textOf (readRoad file)) ≤ greatestListing
     go Accepted e = rw (read-by file Accepted e) (road-at-most (roadIn file) (accepted-file file e .road))
     go (Fault k) e = rw (read-by file (Fault k) e) (omega (arith, line-at-most refusedWord (k ∷ []) 6 (λ _. item-at-most _)))
-
--- what is answered is within the buffer
-pub list-answer-fits : (file buffer : List ℕ) → valueOrZero (listAnswer file buffer) ≤ length buffer
-unfolding listAnswer
-list-answer-fits file buffer = go (ltb (length buffer) (length (listing file))) refl
-  where
-    go : (t : Bool) → ltb (length buffer) (length (listing file)) ≡ t → valueOrZero (listAnswer file buffer) ≤ length buffer
-    go true e = rw e (omega arith)
-    go false e = rw e (ltb-false (length buffer) (length (listing file)) e)

@@ -107,7 +107,11 @@ listAnswer file buffer = roomFor (length (listing file)) buffer
 unfoldable pub listBuffer : List ℕ → List ℕ → List ℕ
 listBuffer file buffer = written (λ k. getD (listing file) k 0) (listAnswer file buffer) buffer
 
--- ---- how much of a file is enough
--- n bytes are enough: whatever a file holds behind them, its listing is that of its first n bytes
+-- ---- what the lister's two arrays are asked
+-- n bytes of a file are enough: whatever it holds behind them, its listing is that of its first n bytes
 abbrev pub EnoughToList : ℕ → Type 0
 EnoughToList n = (file : List ℕ) → n ≤ length file → listing (take n file) ≡ listing file
+
+-- n bytes hold any listing
+abbrev pub HoldsListings : ℕ → Type 0
+HoldsListings n = (file : List ℕ) → length (listing file) ≤ n
