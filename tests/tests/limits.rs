@@ -31,7 +31,9 @@ fn limits_of_the_exports() {
     assert_eq!(exports::GREATEST_FARTHEST as usize, number(TERMS, "GREATEST_FARTHEST"));
     assert_eq!(exports::EYE_HEIGHT as usize, number(TERMS, "EYE_HEIGHT"));
     assert_eq!(exports::OBJECT_HEIGHT as usize, number(TERMS, "OBJECT_HEIGHT"));
-    assert_eq!(exports::GREATEST_LISTING, number(LISTING, "GREATEST_LISTING"));
+    assert_eq!(constant(LISTING, "MOST_ZONES"), "(terms::MARKED_STATIONS + 1) / 2");
+    assert_eq!(constant(LISTING, "GREATEST_LISTING"), "22 + 14 * MOST_ZONES * LETTERS as usize");
+    assert_eq!(exports::GREATEST_LISTING, 22 + 14 * marked_stations().div_ceil(2) * number(LISTING, "LETTERS"));
     assert_eq!(constant(ZONES, "MOST_ENDS"), "terms::GREATEST_LIST + 1");
     assert_eq!(exports::MOST_ENDS, exports::GREATEST_LIST + 1);
     assert_eq!(constant(FILE, "ENOUGH_BYTES"), "HEADER_BYTES + CURVE_BYTES * road::CURVE_PLACES + 1");

@@ -12,9 +12,6 @@ use road::Road;
 use terms::Answer;
 use terms::Verdict;
 
-// The version of a road file.
-const VERSION: u32 = file::VERSION as u32;
-
 // One space parts the items of a line, and every line ends with a line feed.
 const SPACE: u8 = 32;
 
@@ -131,7 +128,7 @@ fn write_road(road: Road, text: &mut [u8]) -> usize
 {
     let speed = road.speed as u32;
     let needed = distance::distances_for(speed, road.purpose as u32);
-    let numbers = [VERSION, speed, needed.stopping, needed.decision];
+    let numbers = [file::VERSION, speed, needed.stopping, needed.decision];
     let next = write_line(b"VCP", &numbers, text, 0);
     let mut marks = [0u8; terms::MARKED_STATIONS];
     road_marks::mark_road(road, &mut marks);
