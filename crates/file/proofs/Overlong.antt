@@ -14,7 +14,6 @@ use Rattle.terms.specs.Limits.{greatestCurveCount}
 use Rattle.terms.specs.Refusals.{lettersRefused, versionRefused, curveCountRefused, totalRefused}
 use Rattle.terms.specs.declared.Verdict.{Verdict}
 use Rattle.terms.specs.declared.Verdict.the-variants.{Accepted, Fault}
-use Rattle.terms.proofs.Laws.{fault-not-accepted}
 use Rattle.road.specs.Road.{roadVerdict}
 use Rattle.file.specs.File.{byteAt, numberAt, fileLength, curveCount, lettersNumber, version, roadIn}
 use Rattle.file.specs.Reading.{headerVerdict, readVerdict, enoughBytes, EnoughToRead}
@@ -45,10 +44,7 @@ overlong s l =
     (λ e. let few = ltb-false greatestCurveCount (curveCount s) e in simp (ne-eqb (length s) (fileLength (curveCount s)) (λ same. omega arith))))
 
 module _ (s : List ℕ) (l : enoughBytes ≤ length s) where
-  pub overlong-not-accepted : readVerdict s ≡ Accepted → ⊥
-  overlong-not-accepted e = fault-not-accepted _ (sym (overlong s l) ∙ e)
-
-  pub read-verdict-front : readVerdict (take enoughBytes s) ≡ readVerdict s
+  read-verdict-front : readVerdict (take enoughBytes s) ≡ readVerdict s
   unfolding overlongFault numberAt
   read-verdict-front =
       let size : length (take enoughBytes s) ≡ enoughBytes = length-take-le enoughBytes s l in

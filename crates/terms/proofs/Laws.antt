@@ -1,6 +1,6 @@
 -- Laws of answers, verdicts and ranges.
 use Prim.Native.Nat.{ℕ, zero, suc, _≤_, _<_}
-use mathlib.Core.Bool.{Bool, true, false, not, _||_}
+use mathlib.Core.Bool.{Bool, true, false, not}
 use mathlib.Core.List.{List}
 use mathlib.Core.Path.{_≡_, refl, sym, subst, _∙_}
 use native.Mathlib.Omega.{arith}
@@ -12,7 +12,7 @@ use lib.Dec.{T, ltb, eqb, eqb→eq, nltb→le}
 use lib.IntN.{ℤ}
 use lib.ListN.{length, take, replicate, length-replicate}
 use lib.Seq.{length-take-le}
-use lib.Signed.{_≤ℤ_, ltZ, ltZ-yes, ltZ-no, clashℤ}
+use lib.Signed.{_≤ℤ_, ltZ, ltZ-no}
 use Rattle.whole.specs.Fill.{filled}
 use Rattle.whole.proofs.Fill.{filled-length, filled-take, filled-whole}
 use Rattle.terms.specs.Answers.{outside, outsideℤ, eyeOrObjectOutside, refuse, roomFor, written, fault, firstFault, unless, valueOrZero, signed}
@@ -44,15 +44,6 @@ signed-fits (Number n) m l h = record { sfits = omega arith }
 signed-fits (Refused zero) m l h = record { sfits = omega arith }
 signed-fits (Refused (suc k)) m l h = record { sfits = omega arith }
 
--- what an operation answers and leaves in the list, where the definition of its answer is known
-module _ {A : Type 0} (f : ℕ → A) (answer : Answer) (xs : List A) where
-  pub written-refused : (k : ℕ) → answer ≡ Refused k → (Refused k ≡ answer) × (xs ≡ written f answer xs)
-  written-refused k e = (sym e, rw e refl)
-
-  pub written-number :
-      (n : ℕ) (out : List A) → answer ≡ Number n → out ≡ filled f 0 n xs → (Number n ≡ answer) × (out ≡ written f answer xs)
-  written-number n out e p = (sym e, rw e p)
-
 pub written-length : {A : Type 0} (f : ℕ → A) (answer : Answer) (xs : List A) → length (written f answer xs) ≡ length xs
 written-length f (Number n) xs = filled-length f 0 n xs
 written-length f (Refused k) xs = refl
@@ -73,7 +64,7 @@ module _ {A : Type 0} (f : ℕ → A) (v : Verdict) (n : ℕ) (xs : List A) wher
   ends-no-room e l = rw (e, lt-ltb (length xs) n l) (refl, refl)
 
   pub ends-filled : (out : List A) → v ≡ Accepted → n ≤ length xs → out ≡ filled f 0 n xs → Ends (Number n) out
-  ends-filled out e l p = written-number f _ xs n out (room-number v n xs e l) p
+  ends-filled out e l p = rw (room-number v n xs e l) (refl, p)
 
   -- what is written is what a list of just n places holds then
   pub ends-front : (z : A) → v ≡ Accepted → n ≤ length xs → let just = replicate n z in
@@ -121,11 +112,6 @@ first-fault-accepted (Fault k) rest e = absurd (fault-not-accepted k e)
 pub no-difference : (m n : ℕ) → T (not (not (eqb m n))) → m ≡ n
 no-difference m n t = eqb→eq m n (T-not-not (eqb m n) t)
 
--- of two tests neither of which holds, as a condition leaves them
-pub neither-left : (a b : Bool) → (a || b) ≡ false → a ≡ false
-neither-left true b e = e
-neither-left false b e = refl
-
 -- ---- ranges
 -- what is in a range is not outside it
 pub not-outside : (low high x : ℕ) → (low ≤ x) × (x ≤ high) → outside low high x ≡ false
@@ -156,11 +142,3 @@ pub inside-ℤ : (low high z : ℤ) → T (not (outsideℤ low high z)) → (low
 inside-ℤ low high z t =
     let n = or-no (ltZ z low) (ltZ high z) t in
     (ltZ-no (n .0), ltZ-no (n .1))
-
--- the value of a test that does not hold
-pub le-ltZ : {a b : ℤ} → a ≤ℤ b → ltZ b a ≡ false
-le-ltZ {a} {b} h = go (ltZ b a) refl
-  where
-    go : (t : Bool) → ltZ b a ≡ t → t ≡ false
-    go true e = clashℤ (ltZ-yes (subst T (sym e) tt)) h
-    go false e = refl

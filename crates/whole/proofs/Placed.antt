@@ -1,5 +1,4 @@
--- Laws of writing: bytes written one behind the other are their join, and there is room for each where there is room for the
--- join.
+-- Laws of writing: bytes written one behind the other are their join, and what a text holds that was written from its front.
 use mathlib.Core.Path.{_≡_, refl, ap, _∙_}
 use mathlib.Core.List.{List, [], _∷_, _++_}
 use Prim.Native.Nat.{ℕ, suc, _+_, _-_, _≤_}
@@ -40,14 +39,6 @@ placed-filled (b ∷ bytes) at xs =
     ∙ (rw (here, s) at (filled-join f at 1 (length bytes) xs))
 
 -- ---- writing
-pub wrote-none : (at : ℕ) (xs : List ℕ) → Wrote [] at at xs xs
-unfolding placed
-wrote-none at xs = record { behind = omega arith; text = refl }
-
-pub wrote-byte : (b at : ℕ) (xs : List ℕ) → Wrote (b ∷ []) at (at + 1) xs (set xs at b)
-unfolding placed
-wrote-byte b at xs = record { behind = refl; text = refl }
-
 pub wrote-join : {a b : List ℕ} {at m n : ℕ} {xs ys zs : List ℕ} → Wrote a at m xs ys → Wrote b m n ys zs →
     Wrote (a ++ b) at n xs zs
 wrote-join {a} {b} {at} {xs} p q = record {
@@ -80,10 +71,3 @@ wrote-front {bytes} {n} {xs} r p =
 
 pub wrote-length : {bytes : List ℕ} {at n : ℕ} {xs ys : List ℕ} → Wrote bytes at n xs ys → length ys ≡ length xs
 wrote-length {bytes} {at} {xs} p = ap length (p .text) ∙ placed-length bytes at xs
-
--- ---- room
-pub room-first : (a b : List ℕ) {at : ℕ} {xs : List ℕ} → Room (a ++ b) at xs → Room a at xs
-room-first a b r = record { fits = omega (arith, simp length-append at (r .fits)) }
-
-pub room-next : (b : List ℕ) {a : List ℕ} {at m : ℕ} {xs ys : List ℕ} → Room (a ++ b) at xs → Wrote a at m xs ys → Room b m ys
-room-next b r p = record { fits = omega (arith, simp length-append at (r .fits), wrote-length p) }
