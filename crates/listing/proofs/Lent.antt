@@ -8,7 +8,7 @@ use lib.ListN.{length, take, getD}
 use Rattle.whole.specs.Fill.{filled}
 use Rattle.whole.proofs.Fill.{filled-length, filled-at}
 use Rattle.terms.specs.Answers.{valueOrZero}
-use Rattle.terms.specs.Limits.{lastBit, greatestList, greatestMarkedRoad}
+use Rattle.terms.specs.Limits.{greatestList, greatestMarkedRoad}
 use Rattle.terms.specs.declared.Answer.the-variants.{Number}
 use Rattle.terms.specs.declared.Verdict.the-variants.{Accepted}
 use Rattle.terms.proofs.Laws.{not-outside, written-length, ends-front}
@@ -16,7 +16,7 @@ use Rattle.road.specs.declared.Road.{Road}
 use Rattle.road.specs.Road.{roadVerdict}
 use Rattle.road_marks.specs.RoadMarks.{roadMark, markRoadAnswer, markRoadList}
 use Rattle.zones.specs.Zones.{zoneEnds, zoneCount, zonesAnswer, zonesList}
-use Rattle.zones.proofs.Laws.{zones-at-most}
+use Rattle.zones.proofs.Laws.{zones-at-most, zones-by-room}
 use Rattle.listing.specs.Listing.{joined, zoneLines, bitLetters, bitLines, ownMarks}
 
 joined-cong : (f g : ℕ → List ℕ) (n : ℕ) → ((k : ℕ) → k < n → f k ≡ g k) → joined f n ≡ joined g n
@@ -29,14 +29,14 @@ pub zones-lines : (marks list ends : List ℕ) (b count : ℕ) → b < length bi
     length marks ≤ greatestMarkedRoad + 1 → length list ≡ greatestMarkedRoad + 2 → count ≡ valueOrZero (zonesAnswer marks b list) →
     ends ≡ zonesList marks b list →
     (zoneLines (getD bitLetters b 0) ends count ≡ bitLines marks b) × (2 * count ≤ length ends)
-unfolding bitLines zonesList zonesAnswer
+unfolding bitLines zonesList
 zones-lines marks list ends b count bit some short places e p =
     let n = length marks in
     let all = zoneEnds marks b n in
     let size = 2 * zoneCount marks b n in
     let room = zones-at-most marks b n in
     let number : zonesAnswer marks b list ≡ Number (zoneCount marks b n) =
-    simp (le-ltb lastBit b (omega arith), not-outside 1 greatestList n (omega arith), le-ltb (length list) size (omega arith)) in
+    zones-by-room marks list b _ (omega arith) (not-outside 1 greatestList n (omega arith)) refl ∙ rw (le-ltb (length list) size (omega arith)) in
     let left : ends ≡ filled (λ k. getD all k 0) 0 size list = rw number at p in
     let each : (j : ℕ) → j < size → getD ends j 0 ≡ getD all j 0 =
     λ j l. rw left (filled-at _ 0 size list j 0 (omega arith) (omega arith) (omega arith)) in

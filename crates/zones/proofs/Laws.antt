@@ -5,14 +5,19 @@ use mathlib.Core.Bool.{Bool, true, false, not, cond, _&&_, and-true, and-false}
 use mathlib.Core.List.{List, [], _∷_, _++_, append-assoc, append-nil}
 use mathlib.Core.Logic.{⊎-elim}
 use Prim.Native.Nat.{ℕ, zero, suc, _+_, _*_, _/_, _≤_, _<_}
+use borrow.Author.Tests.{le-ltb}
 use native.Mathlib.Nat.{zero-div, eq-or-lt-of-le}
 use native.Mathlib.Numerals.{add-one}
 use native.Mathlib.Omega.{arith}
+use lib.Dec.{ltb}
 use lib.ListN.{length, getD, set, length-append, List·getD-append, List·getD-eq-default}
 use lib.Seq.{getD-append-seam}
-use Rattle.whole.specs.Fill.{filled}
 use Rattle.whole.proofs.Fill.{filled-cong, filled-next}
-use Rattle.zones.specs.Zones.{hasBit, beginsAt, endsAt, only, zoneEnds, zoneCount}
+use Rattle.terms.specs.Answers.{listOutside, refuse}
+use Rattle.terms.specs.Limits.{lastBit}
+use Rattle.terms.specs.Refusals.{zoneRoomRefused}
+use Rattle.terms.specs.declared.Answer.the-variants.{Number}
+use Rattle.zones.specs.Zones.{hasBit, beginsAt, endsAt, only, zoneEnds, zoneCount, zonesAnswer, endsFilled}
 
 -- ---- counting
 -- one for a test that holds
@@ -111,10 +116,6 @@ module _ (marks : List ℕ) (b : ℕ) where
   zones-at-most (suc n) = omega (arith, zones-apart n, one-at-most (hasBit marks b n))
 
 -- ---- writing
--- the list xs with the ends from place 0 on
-abbrev pub endsFilled : List ℕ → List ℕ → List ℕ
-endsFilled ends xs = filled (λ k. getD ends k 0) 0 (length ends) xs
-
 -- one end more, where there is one
 put-only : (ends xs out : List ℕ) (test : Bool) (i : ℕ) → out ≡ endsFilled ends xs →
     cond test (set out (length ends) i) out ≡ endsFilled (ends ++ only test i) xs
@@ -148,3 +149,10 @@ module _ (marks : List ℕ) (b : ℕ) where
       let l : length (ends ++ first) ≡ length ends + one (beginsAt marks b n) = simp (length-append, only-length) in
       let two : next ≡ endsFilled (ends ++ first) xs = q ∙ put-only ends xs out (beginsAt marks b n) n p in
       rw (← zone-ends-next n) (r ∙ (rw l at (put-only (ends ++ first) xs next (endsAt marks b n) n two)))
+
+-- ---- the answer of a good bit and list goes by the room
+pub zones-by-room : (marks zones : List ℕ) (b count : ℕ) → b ≤ lastBit → listOutside (length marks) ≡ false →
+    count ≡ zoneCount marks b (length marks) →
+    zonesAnswer marks b zones ≡ refuse (ltb (length zones) (2 * count)) zoneRoomRefused (Number count)
+unfolding zonesAnswer
+zones-by-room marks zones b count h l e = simp (le-ltb lastBit b h, l, e)

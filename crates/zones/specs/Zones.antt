@@ -1,12 +1,12 @@
--- Document 01, "Marks and zones": the zones of a bit, all longest runs of stations with that bit.
-use Prim.Native.Nat.{ℕ, zero, suc, _+_, _*_, _/_, _%_, _^_}
+-- docs/RULES.md, "Marks and zones": the zones of a bit, all longest runs of stations with that bit.
+use Prim.Native.Nat.{ℕ, zero, suc, _+_, _*_, _/_, _%_, _^_, _≤_}
 use mathlib.Core.Bool.{Bool, not, cond, _&&_}
 use mathlib.Core.List.{List, [], _∷_, _++_}
 use lib.Dec.{ltb, eqb}
 use lib.ListN.{length, getD}
 use Rattle.whole.specs.Fill.{filled}
 use Rattle.terms.specs.Answers.{listOutside, refuse}
-use Rattle.terms.specs.Limits.{lastBit}
+use Rattle.terms.specs.Limits.{lastBit, greatestList}
 use Rattle.terms.specs.Refusals.{bitRefused, listRefused, zoneRoomRefused}
 use Rattle.terms.specs.declared.Answer.{Answer}
 use Rattle.terms.specs.declared.Answer.the-variants.{Number, Refused}
@@ -55,3 +55,14 @@ pairsWritten ends (Refused k) zones = zones
 -- the zones from place 0 on, ascending, numbers beyond stay; where it is refused all stay
 unfoldable pub zonesList : List ℕ → ℕ → List ℕ → List ℕ
 zonesList marks b zones = pairsWritten (zoneEnds marks b (length marks)) (zonesAnswer marks b zones) zones
+
+-- ---- what the private `write_zones` asks and leaves, which its contract alone cites
+-- the bit and the marks are in their ranges, and the list has two places for each zone
+pub record ZonesFit (marks : List ℕ) (b : ℕ) (zones : List ℕ) : Type 0 where
+  pub bit : b ≤ lastBit
+  pub short : length marks ≤ greatestList
+  pub room : 2 * zoneCount marks b (length marks) ≤ length zones
+
+-- the list with all ends from place 0 on
+abbrev pub endsFilled : List ℕ → List ℕ → List ℕ
+endsFilled ends zones = filled (λ k. getD ends k 0) 0 (length ends) zones

@@ -1,15 +1,11 @@
-// Document 01, "Marks and zones": the zones of a bit.
+// docs/RULES.md, "Marks and zones": the zones of a bit.
 ghost use mathlib.Core.Path.{_≡_};
 ghost use mathlib.Core.Bool.{cond};
-ghost use Prim.Native.Nat.{_+_, _*_, _≤_, _<_};
+ghost use Prim.Native.Nat.{_+_, _≤_, _<_};
 ghost use lib.ListN.{length, set};
-ghost use Rattle.terms.specs.Limits.{lastBit, greatestList};
-ghost use Rattle.terms.specs.declared.Answer.the-variants.{Number};
-ghost use Rattle.zones.specs.Zones.{hasBit, beginsAt, endsAt, zoneEnds, zoneCount, pairsWritten, zonesAnswer, zonesList};
+ghost use Rattle.terms.specs.Limits.{lastBit};
+ghost use Rattle.zones.specs.Zones.{hasBit, beginsAt, endsAt, zoneEnds, zoneCount, zonesAnswer, zonesList, ZonesFit, endsFilled};
 use terms::Answer;
-
-// Places for the first and last stations of all zones of a bit: between two zones there is a station without the bit.
-pub const MOST_ENDS: usize = terms::GREATEST_LIST + 1;
 
 // Whether the mark of station `i` has the bit. Beyond the last station there is none.
 fn has_bit(marks: &[u8], bit: u32, i: usize) -> bool
@@ -69,8 +65,8 @@ fn put_if(test: bool, station: u16, list: &mut [u16], at: usize) -> usize
 
 // Writes the first and the last station of each zone, from place 0 on.
 fn write_zones(marks: &[u8], bit: u32, list: &mut [u16])
-    requires { ⌜ (bit ≤ lastBit) × (length (now marks) ≤ greatestList) × (2 * zoneCount (now marks) bit (length (now marks)) ≤ length (now list)) ⌝ }
-    ensures { λ _. ⌜ now (list .exit) ≡ pairsWritten (zoneEnds (now (marks .entry)) bit (length (now (marks .entry)))) (Number (zoneCount (now (marks .entry)) bit (length (now (marks .entry))))) (now (list .entry)) ⌝ }
+    requires { ⌜ ZonesFit (now marks) bit (now list) ⌝ }
+    ensures { λ _. ⌜ now (list .exit) ≡ endsFilled (zoneEnds (now (marks .entry)) bit (length (now (marks .entry)))) (now (list .entry)) ⌝ }
 {
     let mut at: usize = 0;
     for i in 0..marks.len() {

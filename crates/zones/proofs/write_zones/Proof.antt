@@ -8,8 +8,8 @@ use native.Mathlib.Numerals.{add-one}
 use native.Mathlib.Omega.{arith}
 use lib.ListN.{length}
 use Rattle.whole.proofs.Fill.{filled-length, filled-none}
-use Rattle.zones.specs.Zones.{beginsAt, endsAt, zoneEnds}
-use Rattle.zones.proofs.Laws.{one, endsFilled, zone-ends-more, zone-ends-fit, zone-ends-put, zone-ends-twice}
+use Rattle.zones.specs.Zones.{beginsAt, endsAt, zoneEnds, endsFilled}
+use Rattle.zones.proofs.Laws.{one, zone-ends-more, zone-ends-fit, zone-ends-put}
 use Rattle.zones.proofs.write_zones.Statement.{statement}
 use Rattle.zones.proofs.write_zones.Tie as tie
 
@@ -98,7 +98,7 @@ same-length c = same-size (c .before)
 returns : tie.Need-returns Inv-loop μ-loop
 returns c =
     let all : c .before .loop .i ≡ length (c .before .before .before .before .args .marks .now) = omega arith in
-    rw (all, zone-ends-twice) at (c .before .loop .inv .3)
+    rw all at (c .before .loop .inv .3)
 
 pub write-zones-spec : {M : Type 1} → statement M
 write-zones-spec =
