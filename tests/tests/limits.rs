@@ -3,7 +3,6 @@
 const TERMS: &str = include_str!("../../crates/terms/src/lib.rt");
 const ROAD: &str = include_str!("../../crates/road/src/lib.rt");
 const FILE: &str = include_str!("../../crates/file/src/lib.rt");
-const ZONES: &str = include_str!("../../crates/zones/src/lib.rt");
 const LISTING: &str = include_str!("../../crates/listing/src/lib.rt");
 
 /// What stands behind the `=` of a constant.
@@ -34,8 +33,6 @@ fn limits_of_the_exports() {
     assert_eq!(constant(LISTING, "MOST_ZONES"), "(terms::MARKED_STATIONS + 1) / 2");
     assert_eq!(constant(LISTING, "GREATEST_LISTING"), "22 + 14 * MOST_ZONES * LETTERS as usize");
     assert_eq!(exports::GREATEST_LISTING, 22 + 14 * marked_stations().div_ceil(2) * number(LISTING, "LETTERS"));
-    assert_eq!(constant(ZONES, "MOST_ENDS"), "terms::GREATEST_LIST + 1");
-    assert_eq!(exports::MOST_ENDS, exports::GREATEST_LIST + 1);
     assert_eq!(constant(FILE, "ENOUGH_BYTES"), "HEADER_BYTES + CURVE_BYTES * road::CURVE_PLACES + 1");
     assert_eq!(constant(ROAD, "CURVE_PLACES"), "terms::GREATEST_CURVE_COUNT as usize");
     let curves = number(FILE, "CURVE_BYTES") * number(TERMS, "GREATEST_CURVE_COUNT");

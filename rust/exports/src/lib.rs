@@ -28,7 +28,7 @@ pub const MARKED_STATIONS: usize = 8_001;
 /// The farthest distance that is looked at, in metres.
 pub const GREATEST_FARTHEST: u32 = 8_000;
 
-/// Numbers that hold the ends of all zones of any list of marks.
+/// Numbers that hold the ends of all zones of any list of marks: between two zones there is a station of neither.
 pub const MOST_ENDS: usize = GREATEST_LIST + 1;
 
 /// The height of the eye that roads are marked with, 1.08 m.
