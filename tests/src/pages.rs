@@ -48,17 +48,28 @@ pub fn table<'a>(document: &'a str, heading: &str) -> Vec<Vec<&'a str>> {
     rows
 }
 
-/// The links of a text: what each shows, and what it names.
+/// The links of a text, what each shows and what it names: `[shown](path)`, or `[shown][label]` with `[label]: path` on a line of
+/// its own.
 pub fn links(text: &str) -> Vec<(&str, &str)> {
-    let pieces = text.split("](").collect::<Vec<_>>();
-    let shown = pieces.iter().map(|piece| piece.rsplit('[').next().unwrap_or_default());
-    let named = pieces.iter().skip(1).map(|piece| piece.split(')').next().unwrap_or_default());
-    shown.zip(named).collect()
+    let labels = |label: &str| {
+        let line = text.lines().find_map(|line| line.strip_prefix('[')?.strip_prefix(label)?.strip_prefix("]: "));
+        line.unwrap_or_else(|| panic!("no line for the label {label}"))
+    };
+    let mut links = Vec::new();
+    for (at, _) in text.match_indices("](").chain(text.match_indices("][")) {
+        let shown = text[..at].rsplit('[').next().unwrap_or_default();
+        let named = &text[at + 2..];
+        links.push(match text[at..].starts_with("](") {
+            true => (shown, named.split(')').next().unwrap_or_default()),
+            false => (shown, labels(named.split(']').next().unwrap_or_default())),
+        });
+    }
+    links
 }
 
 /// Whether a source of antt has a public item of that name: a definition, a law or a record.
 pub fn has_public(source: &str, name: &str) -> bool {
-    source.lines().any(|line| {
+    source.lines().filter(|line| !line.trim_start().starts_with("--")).any(|line| {
         let words: Vec<&str> = line.split_whitespace().collect();
         let behind = words.iter().position(|&word| word == "pub").map_or(&[][..], |at| &words[at + 1..]);
         match behind {

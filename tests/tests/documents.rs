@@ -6,7 +6,7 @@ use std::fs;
 use std::path::PathBuf;
 
 use sight_tests::lister;
-use sight_tests::pages::{block, files, has_public, links, prose, quoted, root, text};
+use sight_tests::pages::{block, files, has_public, links, prose, quoted, root, table, text};
 use sight_tests::reference::listing::listing;
 
 /// The road file that the README shows.
@@ -101,6 +101,7 @@ fn laws_are_those_of_the_files() {
 #[test]
 fn theorems_are_held_in_place() {
     let readme = prose(&text("README.md"));
+    let ruled_out = wrong_answers(&text("docs/RULED-OUT.md"));
     let mut found = 0;
     for line in readme.lines() {
         for (law, kind) in laws(line).into_iter().filter_map(|(law, kind)| Some((law, kind?))) {
@@ -113,12 +114,12 @@ fn theorems_are_held_in_place() {
             assert!(text(proof).lines().any(|own| own == format!("pub {law} : {kind}")), "{law} : {kind} in {proof}");
             let (name, rest) =
                 statement.strip_prefix("crates/").and_then(|path| path.split_once('/')).expect("a crate's file");
-            let edits = files(&root().join("crates").join(name).join("must-fail"), "edit");
-            let of_statement = edits.iter().filter(|edit| {
-                let edit = fs::read_to_string(edit).expect("an edit is text");
-                edit.lines().any(|own| own == format!("file: {rest}"))
+            let own = &ruled_out[&format!("{name} : {kind}")];
+            let of_statement = own.iter().filter(|(edit, _)| {
+                let edit = text(&format!("crates/{name}/must-fail/{edit}.edit"));
+                edit.lines().any(|line| line == format!("file: {rest}"))
             });
-            assert!(of_statement.count() >= 2, "{statement} has fewer than two edits");
+            assert!(of_statement.count() >= 2, "{kind} has fewer than two edits");
             found += 1;
         }
     }
@@ -137,6 +138,26 @@ fn functions_are_those_of_the_crates() {
         }
         assert!(named.len() > least, "{path} names {named:?}");
     }
+}
+
+/// The table of contracts has every public function but those that it leaves to their operations: `crate::function`, or `function` in a row
+/// of that crate.
+#[test]
+fn every_contract_is_in_the_table() {
+    let document = text("docs/ARCHITECTURE.md");
+    let mut named = BTreeSet::new();
+    for row in table(&document, "## The contracts") {
+        let mut name = "";
+        for function in quoted(row[0]) {
+            name = function.split_once("::").map_or(name, |(own, _)| own);
+            named.insert(format!("{name}::{}", function.rsplit("::").next().unwrap_or_default()));
+        }
+    }
+    let functions = public_functions();
+    assert!(named.is_subset(&functions), "{:?}", named.difference(&functions));
+    let left: BTreeSet<&str> =
+        functions.difference(&named).map(|function| function.split("::").next().unwrap_or_default()).collect();
+    assert_eq!(left, BTreeSet::from(["listing_exports", "marks_exports", "sight_exports"]));
 }
 
 /// An edit as the table of wrong answers has it: its name, and what it changes.
@@ -165,10 +186,12 @@ fn wrong_answers(table: &str) -> BTreeMap<String, Vec<Edit>> {
 fn changes(edit: &str) -> &'static str {
     let contract =
         edit.lines().any(|line| line.starts_with("old:") && (line.contains("ensures") || line.contains("requires")));
-    match edit.lines().any(|line| line.starts_with("file: specs/")) {
-        true => "definition",
-        false if contract => "contract",
-        false => "code",
+    let file = edit.lines().find_map(|line| line.strip_prefix("file: ")).expect("an edit names its file");
+    match file.split('/').next() {
+        Some("specs") => "definition",
+        Some("src") if contract => "contract",
+        Some("src") => "code",
+        _ => panic!("an edit of {file}"),
     }
 }
 

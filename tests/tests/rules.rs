@@ -33,8 +33,10 @@ fn definitions(path: &str) -> BTreeMap<String, i64> {
 /// The table below a heading, as names with their numbers.
 fn shown(heading: &str) -> BTreeMap<String, i64> {
     let rules = text(RULES);
-    let rows = table(&rules, heading).into_iter().map(|row| (quoted(row[1])[0].to_string(), number(row[0])));
-    rows.collect()
+    let rows = table(&rules, heading);
+    let named: BTreeMap<String, i64> = rows.iter().map(|row| (quoted(row[1])[0].to_string(), number(row[0]))).collect();
+    assert_eq!(named.len(), rows.len(), "{heading} names one twice");
+    named
 }
 
 /// A name of the definitions as the code has it: `speedRefused` is `SPEED_REFUSED`.
@@ -75,15 +77,51 @@ fn refusals_and_limits_are_those_of_the_sources() {
     }
 }
 
-/// The reasons that the command prints for the refusals have the numbers of the rules.
+/// The numbers of a text.
+fn numbers(text: &str) -> Vec<i64> {
+    let parts = text.split(|letter: char| !(letter.is_ascii_digit() || ",−-".contains(letter)));
+    parts
+        .map(|part| part.trim_matches(','))
+        .filter(|part| part.bytes().any(|byte| byte.is_ascii_digit()))
+        .map(number)
+        .collect()
+}
+
+/// The reason that the command prints for a refusal has the numbers of its row, and there is one for each.
 #[test]
 fn every_refusal_has_its_reason() {
-    let refusals = shown("## Refusals");
-    for number in 1..=refusals.len() as i64 {
-        assert!(refusals.values().any(|&own| own == number), "refusal {number}");
+    let rules = text(RULES);
+    let rows = table(&rules, "## Refusals");
+    for (place, row) in rows.iter().enumerate() {
+        let number = number(row[0]);
+        assert_eq!(number, place as i64 + 1, "the refusals stand in order");
         let reason = refusal::answer(-number).expect_err("a refusal").to_string();
-        assert!(reason.starts_with(&format!("refused {number}: ")), "{reason}");
+        let reason = reason.strip_prefix(&format!("refused {number}: ")).expect("its number");
+        assert!(!reason.contains("do not name"), "refusal {number} has no reason");
+        let said = numbers(reason);
+        for own in numbers(row[2]) {
+            assert!(said.contains(&own), "refusal {number}: {own} is not in {reason:?}");
+        }
     }
+    let beyond = refusal::answer(-(rows.len() as i64) - 1).expect_err("a refusal").to_string();
+    assert!(beyond.contains("do not name"), "{beyond}");
+}
+
+/// The table of purposes is that of the definitions.
+#[test]
+fn purposes_are_those_of_the_definitions() {
+    let rules = text(RULES);
+    let rows = rules.lines().map(str::trim).skip_while(|line| !line.starts_with("| Purpose |")).skip(2);
+    let shown: Vec<String> = rows
+        .take_while(|line| line.starts_with('|'))
+        .map(|row| {
+            let columns: Vec<&str> = row.trim_matches('|').split('|').map(str::trim).collect();
+            format!("row {} {}", columns[2].replace('.', ""), columns[3] == "yes")
+        })
+        .collect();
+    let source = text("crates/distance/specs/Distance.antt");
+    let defined = source.lines().find_map(|line| line.strip_prefix("purposes = ")).expect("the table");
+    assert_eq!(format!("{} ∷ []", shown.join(" ∷ ")), defined);
 }
 
 /// Each definition that the rules name beside a rule is a public one of the file that they name.
