@@ -29,7 +29,7 @@ fn compare(crest: Crest) -> Answer {
 }
 
 #[test]
-fn cases_of_document_01() {
+fn cases_of_the_rules() {
     for (drop, sight, answer) in
         [(600, 130, Ok(156)), (300, 130, Ok(42)), (253, 130, Ok(0)), (254, 130, Ok(2)), (3_000, 800, Err(18))]
     {

@@ -73,7 +73,7 @@ fn stopping_distances_printed_by_aashto() {
 }
 
 #[test]
-fn cases_of_document_01() {
+fn cases_of_the_rules() {
     let cases = [
         (80, STOPPING, Ok(130)),
         (100, STOPPING, Ok(185)),

@@ -16,7 +16,7 @@ fn compare(file: &[u8]) -> String {
 
 /// The rules' example, byte by byte. It ships as a road file.
 #[test]
-fn example_of_document_01() {
+fn example_of_the_rules() {
     assert_eq!(*include_bytes!("../../roads/example.vcp"), EXAMPLE);
     let lines = "VCP 1 20 20 25\nS 83 95\nD 78 96\nR 78 82\nR 96 96\ns 281 300\nd 276 300\n";
     assert_eq!(compare(&EXAMPLE), lines);

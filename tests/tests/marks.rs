@@ -32,7 +32,7 @@ fn compare_accepted(random: &mut Random, file: &[u8]) -> Vec<u8> {
 }
 
 #[test]
-fn example_of_document_01() {
+fn example_of_the_rules() {
     let marks = compare_accepted(&mut Random::new(26), &EXAMPLE);
     let zones: [&[[u16; 2]]; 8] =
         [&[[83, 95]], &[[78, 96]], &[[78, 82], [96, 96]], &[[281, 300]], &[[276, 300]], &[], &[], &[]];

@@ -77,7 +77,7 @@ fn expect_accepted(road: &Road) {
 }
 
 #[test]
-fn cases_of_document_01() {
+fn cases_of_the_rules() {
     let cases: [(u16, &[(usize, i32)]); 2] = [(20, &[(41, 12_285), (50, 13_500), (100, 0)]), (18, &[(42, 12_583)])];
     for (length, heights_there) in cases {
         let file = bytes(&road(300, &[curve(50, length, -300)]));

@@ -69,7 +69,7 @@ fn program_heights(road: &Road) -> Vec<i32> {
 }
 
 #[test]
-fn cases_of_document_01() {
+fn cases_of_the_rules() {
     let cases: [(&[i32], Look, u16); 4] = [
         (&[0, 20, 0, 100], look(10, 5, 8), 1),
         (&[0, 5, 0], look(6, 4, 8), 2),

@@ -87,7 +87,7 @@ fn same_as_the_lister() {
 
 /// The rules' example, from a file and from standard input.
 #[test]
-fn example_of_document_01() {
+fn example_of_the_rules() {
     let folder = folder("list_example");
     fs::write(folder.join("a.vcp"), EXAMPLE).expect("a file is written");
     let text = "VCP 1 20 20 25\nS 83 95\nD 78 96\nR 78 82\nR 96 96\ns 281 300\nd 276 300\n";
