@@ -1,5 +1,5 @@
 # The kit that the crates are proved with, as `rt version` names it.
-KIT := rattle-kit-5b logic 064da1ca440f63e7
+KIT := rattle-kit-5b-plain logic 097e4c862dff5811
 
 SHELL := /bin/bash
 .SHELLFLAGS := -euo pipefail -c

@@ -1,4 +1,4 @@
--- How a definition says an answer: tests in their order, each with its refusal, and then the value.
+-- docs/RULES.md, "What an operation answers": how a definition says an answer: tests in their order, each with its refusal, and then the value.
 use Prim.Native.Nat.{ℕ}
 use mathlib.Core.Bool.{Bool, cond, _||_}
 use mathlib.Core.List.{List}
@@ -63,7 +63,7 @@ abbrev pub valueOrZero : Answer → ℕ
 valueOrZero (Number n) = n
 valueOrZero (Refused k) = 0
 
--- docs/RULES.md, "The lister": the answer as the van's program gets it, a refusal being minus its number
+-- the answer as the van's program gets it, a refusal being minus its number
 abbrev pub signed : Answer → ℤ
 signed (Number n) = pos n
 signed (Refused k) = negℤ (pos k)

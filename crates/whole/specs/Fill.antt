@@ -1,4 +1,4 @@
--- A list with a row of its places filled: the rules say of every lent list which places are written, and that the others stay.
+-- docs/RULES.md, "What an operation answers": a list with a row of its places filled, the others stay.
 use Prim.Native.Nat.{ℕ, zero, suc, _+_}
 use mathlib.Core.List.{List}
 use lib.ListN.{set}

@@ -1,4 +1,4 @@
--- Fractions of whole numbers: exact heights are such. They are compared by products, since denominators are positive.
+-- docs/RULES.md, "The road and its heights": fractions of whole numbers, as exact heights are. They are compared by products, since denominators are positive.
 use Prim.Native.Nat.{ℕ, _*_}
 use mathlib.Core.Bool.{Bool}
 use lib.IntN.{ℤ, pos, _+ℤ_, _*ℤ_}

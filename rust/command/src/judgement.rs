@@ -25,9 +25,9 @@ impl Judgement {
     /// That of a road file, from its listing.
     pub fn of_road(file: &[u8]) -> Result<Judgement, Refusal> {
         let [_, purpose, ..] = roadtext::road_numbers(file)?.head;
-        let stations = exports::file_heights(file, &mut [0; MARKED_STATIONS])?;
         let mut text = vec![0; GREATEST_LISTING];
         let bytes = exports::list_road_file(file, &mut text)?;
+        let stations = exports::file_heights(file, &mut [0; MARKED_STATIONS])?;
         let mut lines = text[..bytes as usize].split(|&byte| byte == b'\n');
         let [_, speed, stopping, decision] = numbers(lines.next().unwrap_or_default());
         let mut zones = Zones::default();
