@@ -1,9 +1,10 @@
 -- `main` is safe, and hands over arrays of the lengths that the laws speak of: what is read is enough (`listing-front`), and the
 -- text holds any listing (`listing-at-most`).
 use Prim.Native.Nat.{ℕ}
-use mathlib.Core.Path.{sym}
+use mathlib.Core.Path.{sym, subst}
 use borrow.Author.Needs.{needs}
 use lib.ListN.{length-replicate}
+use Rattle.listing.specs.Listing.{HoldsListings}
 use Rattle.listing.proofs.Front.{listing-front}
 use Rattle.listing.proofs.Longest.{listing-at-most}
 use Rattle.lister.proofs.main.Statement.{statement}
@@ -25,13 +26,13 @@ slice-aggregate-list-2 : tie.Need-slice-aggregate-list-2
 slice-aggregate-list-2 c = sym (length-replicate {A = ℕ} _ 0)
 
 list-requires : tie.Need-list-requires
-list-requires c κs = rw (length-replicate {A = ℕ} _ 0) listing-at-most
+list-requires c κs = subst HoldsListings (sym (length-replicate {A = ℕ} _ 0)) listing-at-most
 
 array-share-prefix-text : tie.Need-array-share-prefix-text
-array-share-prefix-text c = search needs
+array-share-prefix-text c = c .before .list .ensures .0 .0
 
 slice-aggregate-write-all : tie.Need-slice-aggregate-write-all
-slice-aggregate-write-all c = search needs
+slice-aggregate-write-all c = c .before .before .list .ensures .0 .1
 
 write-all-requires : tie.Need-write-all-requires
 write-all-requires c κs = search needs
