@@ -13,7 +13,7 @@ use Rattle.terms.specs.declared.Verdict.the-variants.{Accepted}
 use Rattle.terms.proofs.Laws.{ends-no-room, ends-filled}
 use Rattle.listing.specs.Listing.{listing, listAnswer, listBuffer}
 use Rattle.listing.proofs.Longest.{greatestListing, listing-at-most}
-use Rattle.listing.proofs.Put.{put-all, wrote-fits}
+use Rattle.listing.proofs.Put.{put-all, put-length, wrote-fits}
 use Rattle.listing.proofs.list_road_file.Statement.{statement}
 use Rattle.listing.proofs.list_road_file.Tie as tie
 
@@ -62,7 +62,7 @@ cast-t13 : tie.Need-cast-t13
 cast-t13 c = omega (arith, small (c .before .before .before .before .before .before .before))
 
 same-length : tie.Need-same-length
-same-length c = search needs
+same-length c = put-length (c .before .before .write-word .ensures)
 
 returns-2 : tie.Need-returns-2
 unfolding listAnswer listBuffer
