@@ -1,6 +1,6 @@
 -- `mark_of` meets its contract. Where a distance is judged, the sight was searched for up to the larger of the two, and
 -- `mark-by-sight` says that it makes the mark.
-use mathlib.Core.Path.{_≡_, ap, _∙_}
+use mathlib.Core.Path.{_≡_, ap, subst, _∙_}
 use mathlib.Core.Bool.{_||_}
 use mathlib.Core.Logic.{⊎-elim}
 use Prim.Native.Nat.{_≤_}
@@ -54,7 +54,7 @@ searched c t =
     ⊎-elim
     (λ w. w .3 ∙ w .2 .ensures ∙ ap valueOrZero (w .1 .ensures)
     ∙ sight-value _ _ _ _ _ (b .pre .0 .0) (b .pre .0 .1) (omega arith) (omega arith) (larger-is (c .before) .2))
-    (λ w. absurd (rw (w .0 .left) at t))
+    (λ w. absurd (subst T (w .0 .left) t))
     (c .if2 .came)
 
 returns : tie.Need-returns
