@@ -17,7 +17,7 @@ use Rattle.sight.specs.Sight.{availableSight}
 use Rattle.sight.specs.Operations.{sightAnswer}
 use Rattle.sight.proofs.Answers.{sight-number}
 use Rattle.sight.proofs.Reach.{sight-le-far, sight-min}
-use Rattle.marks.specs.Marks.{bit, judged, lackingAt, markOf}
+use Rattle.marks.specs.Marks.{marked, judged, lackingAt, markOf}
 
 -- ---- any eye and object
 ltb-min : (a s : ℕ) → ltb (min a s) a ≡ ltb s a
@@ -43,13 +43,12 @@ module _ (heights : List ℤ) (i e o : ℕ) where
 
 -- ---- the mark
 -- what the judged and the lacking make of the five bits
-abbrev marked : Bool → Bool → Bool → Bool → ℕ
-marked stop decide s d =
-    bit 0 (stop && s) + bit 1 (decide && d) + bit 2 (decide && d && (stop && not s)) + bit 3 (not stop) + bit 4 (not decide)
+abbrev markedBy : Bool → Bool → Bool → Bool → ℕ
+markedBy stop decide s d = marked (stop && s) (decide && d) (decide && d && (stop && not s)) (not stop) (not decide)
 
 -- what is lacking counts only where one distance or the other is judged
 marked-cong : (stop decide s d s′ d′ : Bool) → (T (stop || decide) → (s ≡ s′) × (d ≡ d′)) →
-    marked stop decide s d ≡ marked stop decide s′ d′
+    markedBy stop decide s d ≡ markedBy stop decide s′ d′
 marked-cong true decide s d s′ d′ p = rw (p tt .0, p tt .1) refl
 marked-cong false true s d s′ d′ p = rw (p tt .1) refl
 marked-cong false false s d s′ d′ p = refl
@@ -65,11 +64,12 @@ stopping-there false d stop s = refl
 pub mark-by-sight : (heights : List ℤ) (i : ℕ) (d : Distances) (far s : ℕ) → d .stopping ≤ far → d .decision ≤ far →
     let stop = judged heights (d .stopping) i in let decide = judged heights (d .decision) i in
     (T (stop || decide) → s ≡ availableSight heights i eyeHeight objectHeight far) →
-    bit 0 (stop && ltb s (d .stopping))
-    + bit 1 (decide && ltb s (d .decision))
-    + bit 2 ((decide && ltb s (d .decision)) && stop && not (stop && ltb s (d .stopping)))
-    + bit 3 (not stop)
-    + bit 4 (not decide)
+    marked
+    (stop && ltb s (d .stopping))
+    (decide && ltb s (d .decision))
+    ((decide && ltb s (d .decision)) && stop && not (stop && ltb s (d .stopping)))
+    (not stop)
+    (not decide)
     ≡ markOf heights d i
 unfolding markOf
 mark-by-sight heights i d far s l m e =

@@ -1,1 +1,2 @@
+pub mod Markable
 pub mod Marks

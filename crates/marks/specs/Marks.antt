@@ -25,6 +25,10 @@ lackingAt e o heights R i = ltb (availableSight heights i e o R) R
 abbrev pub bit : ℕ → Bool → ℕ
 bit b test = cond test (2 ^ b) 0
 
+-- a mark of five bits, the lowest first
+abbrev pub marked : Bool → Bool → Bool → Bool → Bool → ℕ
+marked b₀ b₁ b₂ b₃ b₄ = bit 0 b₀ + bit 1 b₁ + bit 2 b₂ + bit 3 b₃ + bit 4 b₄
+
 -- the mark of station i for a stopping and a decision distance. Bit 0 (S): stopping judged and lacking. Bit 1 (D): decision
 -- judged and lacking. Bit 2 (R): decision judged and lacking while stopping is judged and there. Bit 3 (s): stopping not
 -- judged. Bit 4 (d): decision not judged. Bits 5 to 7 are 0
@@ -34,11 +38,12 @@ markOf heights d i =
     let decisionJudged = judged heights (d .decision) i in
     let stoppingLacking = lackingAt eyeHeight objectHeight heights (d .stopping) i in
     let decisionLacking = lackingAt eyeHeight objectHeight heights (d .decision) i in
-    bit 0 (stoppingJudged && stoppingLacking)
-    + bit 1 (decisionJudged && decisionLacking)
-    + bit 2 (decisionJudged && decisionLacking && (stoppingJudged && not stoppingLacking))
-    + bit 3 (not stoppingJudged)
-    + bit 4 (not decisionJudged)
+    marked
+    (stoppingJudged && stoppingLacking)
+    (decisionJudged && decisionLacking)
+    (decisionJudged && decisionLacking && (stoppingJudged && not stoppingLacking))
+    (not stoppingJudged)
+    (not decisionJudged)
 
 -- the mark of station i for a speed and a purpose
 abbrev pub markFor : ℕ → ℕ → List ℤ → ℕ → ℕ

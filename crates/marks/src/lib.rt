@@ -3,8 +3,8 @@ ghost use mathlib.Core.Path.{_≡_};
 ghost use Prim.Native.Nat.{_+_, _<_, _≤_};
 ghost use lib.ListN.{length};
 ghost use Rattle.whole.specs.Fill.{filled};
-ghost use Rattle.terms.specs.Limits.{greatestList, greatestFarthest};
-ghost use Rattle.marks.specs.Marks.{bit, markOf, marksAnswer, marksList};
+ghost use Rattle.marks.specs.Markable.{Markable};
+ghost use Rattle.marks.specs.Marks.{marked, markOf, marksAnswer, marksList};
 use distance::Distances;
 use terms::Answer;
 use terms::Verdict;
@@ -17,7 +17,7 @@ fn compose(
     stopping_unjudged: bool,
     decision_unjudged: bool,
 ) -> u8
-    ensures { λ r. ⌜ r ≡ bit 0 «stopping_lacking» + bit 1 «decision_lacking» + bit 2 reduced + bit 3 «stopping_unjudged» + bit 4 «decision_unjudged» ⌝ }
+    ensures { λ r. ⌜ r ≡ marked «stopping_lacking» «decision_lacking» reduced «stopping_unjudged» «decision_unjudged» ⌝ }
 {
     (stopping_lacking as u8) << 0
         | (decision_lacking as u8) << 1
@@ -29,8 +29,7 @@ fn compose(
 // The mark of station `i`. One search, up to the larger distance, serves both; a station that is judged for neither needs
 // none.
 fn mark_of(heights: &[i32], d: Distances, i: usize) -> u8
-    requires { ⌜ (i < length (now heights)) × (length (now heights) ≤ greatestList) ⌝ }
-    requires { ⌜ (d .stopping ≤ greatestFarthest) × (d .decision ≤ greatestFarthest) ⌝ }
+    requires { ⌜ Markable (now heights) d × (i < length (now heights)) ⌝ }
     ensures { λ r. ⌜ r ≡ markOf (now (heights .entry)) d i ⌝ }
 {
     let stopping = d.stopping;
@@ -68,8 +67,7 @@ fn mark_of(heights: &[i32], d: Distances, i: usize) -> u8
 
 // The marks of `count` stations from `first` on, each into the place of its station, from the last one back.
 fn fill_marks(heights: &[i32], d: Distances, first: usize, count: usize, list: &mut [u8])
-    requires { ⌜ (first + count ≤ length (now heights)) × (length (now heights) ≤ length (now list)) × (length (now heights) ≤ greatestList) ⌝ }
-    requires { ⌜ (d .stopping ≤ greatestFarthest) × (d .decision ≤ greatestFarthest) ⌝ }
+    requires { ⌜ Markable (now heights) d × (first + count ≤ length (now heights)) × (length (now heights) ≤ length (now list)) ⌝ }
     ensures { λ _. ⌜ now (list .exit) ≡ filled (markOf (now (heights .entry)) d) first count (now (list .entry)) ⌝ }
 {
     let mut i = first + count;

@@ -10,19 +10,18 @@ pub fn mark_road(road: Road, list: &mut [u8]) -> Answer
     ensures answer { λ r. ⌜ r ≡ markRoadAnswer road (now (list .entry)) ⌝ }
     ensures list { λ _. ⌜ now (list .exit) ≡ markRoadList road (now (list .entry)) ⌝ }
 {
-    let mut heights = [0i32; terms::MARKED_STATIONS];
-    match heights::heights(road, &mut heights) {
-        Answer::Number(count) => {
-            let stations = count as usize;
-            marks::marks(
-                road.speed as u32,
-                road.purpose as u32,
-                &heights[..stations],
-                list,
-            )
-        }
-        Answer::Refused(number) => Answer::Refused(number),
+    if let Verdict::Fault(number) = road::verdict(road) {
+        return Answer::Refused(number);
     }
+    let mut heights = [0i32; terms::MARKED_STATIONS];
+    heights::heights(road, &mut heights);
+    let stations = road.length as usize + 1;
+    marks::marks(
+        road.speed as u32,
+        road.purpose as u32,
+        &heights[..stations],
+        list,
+    )
 }
 
 // Marks a road file.
@@ -32,8 +31,8 @@ pub fn mark_road_file(file: &[u8], list: &mut [u8]) -> Answer
 {
     let read = file::read(file);
     let verdict = read.verdict;
-    if let Verdict::Fault(number) = verdict {
-        return Answer::Refused(number);
+    if let Verdict::Fault(fault) = verdict {
+        return Answer::Refused(fault);
     }
     mark_road(read.road, list)
 }

@@ -53,7 +53,7 @@ searched c t =
     let b = c .before .before in
     ⊎-elim
     (λ w. w .3 ∙ w .2 .ensures ∙ ap valueOrZero (w .1 .ensures)
-    ∙ sight-value _ _ _ _ _ (b .pre .0 .0) (b .pre .0 .1) (omega arith) (omega arith) (larger-is (c .before) .2))
+    ∙ sight-value _ _ _ _ _ (b .pre .1) (b .pre .0 .short) (omega arith) (omega arith) (larger-is (c .before) .2))
     (λ w. absurd (subst T (w .0 .left) t))
     (c .if2 .came)
 

@@ -9,7 +9,9 @@ use Rattle.terms.specs.declared.Verdict.the-variants.{Accepted}
 use Rattle.terms.proofs.Laws.{ends-fault, ends-no-room, ends-filled}
 use Rattle.verdicts.specs.Verdicts.{marksVerdict}
 use Rattle.verdicts.proofs.Laws.{marks-in-range}
+use Rattle.distance.specs.Distance.{distancesFor}
 use Rattle.distance.proofs.Laws.{distances-at-most}
+use Rattle.marks.specs.Markable.{Markable}
 use Rattle.marks.specs.Marks.{markFor, marksAnswer, marksList}
 use Rattle.marks.proofs.marks.Statement.{statement}
 use Rattle.marks.proofs.marks.Tie as tie
@@ -48,7 +50,9 @@ fill-marks-requires : tie.Need-fill-marks-requires
 fill-marks-requires c κs =
     let t = c .before .before .before in let a = t .before .before .before .before .args in
     let metres = distances-at-most (a .speed) (a .purpose) in
-    ((omega arith, omega arith, list-small t), rw (c .before .distances-for .ensures) (omega arith))
+    let able : Markable (a .heights .now) (distancesFor (a .speed) (a .purpose)) =
+    record { short = list-small t; stopping = omega arith; decision = omega arith } in
+    (rw (c .before .distances-for .ensures) able, omega arith, omega arith)
 
 cast-t14 : tie.Need-cast-t14
 cast-t14 c = record { fits = omega (arith, list-small (c .before .before .before .before .before .before)) }

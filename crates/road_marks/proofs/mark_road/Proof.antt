@@ -1,20 +1,49 @@
--- `mark_road` meets its contract: where Heights answers a number, the road is accepted and the front of the array is its own
--- heights (`front-marked`); where it refuses, marking is refused alike.
-use mathlib.Core.Path.{sym, _∙_}
-use Prim.Native.Nat.{_≤_}
+-- `mark_road` meets its contract: past the verdict the road is accepted, the array has a place for each of its stations and its front is
+-- the road's own heights, whose marks are the road's (`own-answer`, `own-list`).
+use mathlib.Core.Path.{_≡_, sym, ap, _∙_}
+use Prim.Native.Nat.{_+_, _≤_}
 use borrow.Author.Needs.{needs}
-use lib.IntN.{pos}
-use lib.ListN.{length, length-replicate}
+use native.Mathlib.Omega.{arith}
+use lib.ListN.{length, take}
 use lib.Seq.{length-take-le}
-use Rattle.road_marks.proofs.OwnMarks.{front-fits, front-marked, refused-as-heights}
+use Rattle.terms.specs.declared.Verdict.the-variants.{Accepted}
+use Rattle.terms.proofs.Laws.{ends-fault}
+use Rattle.road.specs.Road.{roadVerdict}
+use Rattle.heights.specs.Heights.{ownHeights}
+use Rattle.heights.proofs.Filled.{own-front}
+use Rattle.road_marks.specs.RoadMarks.{roadMark, markRoadAnswer, markRoadList}
+use Rattle.road_marks.proofs.OwnMarks.{marked-length, own-answer, own-list}
 use Rattle.road_marks.proofs.mark_road.Statement.{statement}
 use Rattle.road_marks.proofs.mark_road.Tie as tie
 
--- the stations are places of the array
-fits : (c : tie.After-count) → c .count .given .0 .0 ≤ length (c .before .before .before .heights2 .last .1 .0)
-fits c =
-    let h = c .before .before .before .heights2 in
-    rw (h .kept .1 .0) (front-fits _ _ (length-replicate _ (pos 0)) _ (sym (c .count .given .1) ∙ h .ensures .0))
+-- what Heights leaves in the array
+module _ (h : tie.After-heights2) where
+  abbrev start : tie.Start
+  start = h .before .before .before .before .before .before
+
+  accepted : roadVerdict (start .args .road) ≡ Accepted
+  accepted = let told = h .before .before in sym (told .before .before .verdict .ensures) ∙ told .enum-told .given .1
+
+  room : start .args .road .length + 1 ≤ length (h .heights2 .last .1 .0)
+  room = omega (arith, h .heights2 .kept .1 .0, marked-length _ accepted)
+
+  front : take (start .args .road .length + 1) (h .heights2 .last .1 .0) ≡ ownHeights (start .args .road)
+  front = ap (take (start .args .road .length + 1)) (h .heights2 .ensures .1) ∙ own-front _ _ accepted (omega (arith, marked-length _ accepted))
+
+verdict-requires : tie.Need-verdict-requires
+verdict-requires c κs = search needs
+
+enum-known-number : tie.Need-enum-known-number
+enum-known-number c = search needs
+
+returns : tie.Need-returns
+unfolding markRoadAnswer markRoadList
+returns c =
+    let v = c .before .before .before in
+    ends-fault (roadMark _) _ _ _ (sym (v .verdict .ensures) ∙ c .before .number .given .1)
+
+enum-told : tie.Need-enum-told
+enum-told c = search needs
 
 slice-aggregate-heights : tie.Need-slice-aggregate-heights
 slice-aggregate-heights c = search needs
@@ -22,11 +51,11 @@ slice-aggregate-heights c = search needs
 heights-requires : tie.Need-heights-requires
 heights-requires c κs = search needs
 
-enum-known-count : tie.Need-enum-known-count
-enum-known-count c = search needs
-
 cast-stations : tie.Need-cast-stations
 cast-stations c = search needs
+
+add-stations : tie.Need-add-stations
+add-stations c = search needs
 
 cast-marks : tie.Need-cast-marks
 cast-marks c = search needs
@@ -35,46 +64,39 @@ cast-marks-2 : tie.Need-cast-marks-2
 cast-marks-2 c = search needs
 
 array-share-prefix-heights : tie.Need-array-share-prefix-heights
-array-share-prefix-heights c = fits (c .before .before .before)
+array-share-prefix-heights c = room (c .before .before .before .before)
 
 slice-aggregate-marks : tie.Need-slice-aggregate-marks
-slice-aggregate-marks c = sym (length-take-le _ _ (fits (c .before .before .before .before)))
+slice-aggregate-marks c = sym (length-take-le _ _ (room (c .before .before .before .before .before)))
 
 marks-requires : tie.Need-marks-requires
 marks-requires c κs = search needs
 
-enum-known-number : tie.Need-enum-known-number
-enum-known-number c = search needs
-
 same-length : tie.Need-same-length
 same-length c = search needs
 
-returns : tie.Need-returns
-returns c =
-    let m = c .before .before in let n = m .before .before .before .before .before .before in
-    let h = n .before .before .before .heights2 in
-    let own = front-marked _ _ (length-replicate _ (pos 0)) _ _ (sym (n .count .given .1) ∙ h .ensures .0) in
-    (m .marks .ensures .0 ∙ rw (h .ensures .1) (own .0), m .marks .ensures .1 ∙ rw (h .ensures .1) (own .1))
-
 returns-2 : tie.Need-returns-2
 returns-2 c =
-    let n = c .before in
-    refused-as-heights _ _ (length-replicate _ (pos 0)) _ _ (sym (n .number .given .1) ∙ n .before .before .before .heights2 .ensures .0)
+    let m = c .before .before in let h = m .before .before .before .before .before .before .before in
+    let ok = accepted h in
+    (m .marks .ensures .0 ∙ rw (front h) (own-answer _ ok _), m .marks .ensures .1 ∙ rw (front h) (own-list _ ok _))
 
 pub mark-road-spec : {M : Type 1} → statement M
 mark-road-spec =
     tie.close
     (tie.spec
+    verdict-requires
+    enum-known-number
+    returns
+    enum-told
     slice-aggregate-heights
     heights-requires
-    enum-known-count
     cast-stations
+    add-stations
     cast-marks
     cast-marks-2
     array-share-prefix-heights
     slice-aggregate-marks
     marks-requires
-    enum-known-number
     same-length
-    returns
     returns-2)
