@@ -1,8 +1,8 @@
 -- Laws of zones. A station with the bit begins a zone or continues one, and ends it or leaves it open; from this the number of
--- ends follows. And the list of ends, written from place 0 on, grows by one store for each.
-use mathlib.Core.Path.{_≡_, refl, sym, _∙_}
+-- ends follows.
+use mathlib.Core.Path.{_≡_, refl}
 use mathlib.Core.Bool.{Bool, true, false, not, cond, _&&_, and-true, and-false}
-use mathlib.Core.List.{List, [], _∷_, _++_, append-assoc, append-nil}
+use mathlib.Core.List.{List}
 use mathlib.Core.Logic.{⊎-elim}
 use Prim.Native.Nat.{ℕ, zero, suc, _+_, _*_, _/_, _≤_, _<_}
 use borrow.Author.Tests.{le-ltb}
@@ -10,14 +10,12 @@ use native.Mathlib.Nat.{zero-div, eq-or-lt-of-le}
 use native.Mathlib.Numerals.{add-one}
 use native.Mathlib.Omega.{arith}
 use lib.Dec.{ltb}
-use lib.ListN.{length, getD, set, length-append, List·getD-append, List·getD-eq-default}
-use lib.Seq.{getD-append-seam}
-use Rattle.whole.proofs.Fill.{filled-cong, filled-next}
+use lib.ListN.{length, length-append, List·getD-eq-default}
 use Rattle.terms.specs.Answers.{listOutside, refuse}
 use Rattle.terms.specs.Limits.{lastBit}
 use Rattle.terms.specs.Refusals.{zoneRoomRefused}
 use Rattle.terms.specs.declared.Answer.the-variants.{Number}
-use Rattle.zones.specs.Zones.{hasBit, beginsAt, endsAt, only, zoneEnds, zoneCount, zonesAnswer, endsFilled}
+use Rattle.zones.specs.Zones.{hasBit, beginsAt, endsAt, only, zoneEnds, zoneCount, zonesAnswer}
 
 -- ---- counting
 -- one for a test that holds
@@ -28,7 +26,7 @@ one-at-most : (h : Bool) → one h ≤ 1
 one-at-most true = omega arith
 one-at-most false = omega arith
 
-only-length : (test : Bool) (i : ℕ) → length (only test i) ≡ one test
+pub only-length : (test : Bool) (i : ℕ) → length (only test i) ≡ one test
 only-length true i = refl
 only-length false i = refl
 
@@ -64,13 +62,13 @@ module _ (marks : List ℕ) (b : ℕ) where
   unfolding zoneCount
   zone-count-more n = rw add-one refl
 
-  pub zone-ends-more : (n : ℕ) →
+  zone-ends-more : (n : ℕ) →
       length (zoneEnds marks b (suc n)) ≡ length (zoneEnds marks b n) + one (beginsAt marks b n) + one (endsAt marks b n)
   unfolding zoneEnds
   zone-ends-more n = simp (length-append, only-length) (omega arith)
 
   -- each zone has two ends, and one that is open has one so far
-  pub zone-ends-length : (n : ℕ) → length (zoneEnds marks b n) + one (openAt n) ≡ 2 * zoneCount marks b n
+  zone-ends-length : (n : ℕ) → length (zoneEnds marks b n) + one (openAt n) ≡ 2 * zoneCount marks b n
   unfolding zoneEnds zoneCount
   zone-ends-length zero = refl
   zone-ends-length (suc n) = omega (arith, zone-ends-more n, begins-or-open n, zone-ends-length n)
@@ -114,41 +112,6 @@ module _ (marks : List ℕ) (b : ℕ) where
   unfolding zoneCount
   zones-at-most zero = omega arith
   zones-at-most (suc n) = omega (arith, zones-apart n, one-at-most (hasBit marks b n))
-
--- ---- writing
--- one end more, where there is one
-put-only : (ends xs out : List ℕ) (test : Bool) (i : ℕ) → out ≡ endsFilled ends xs →
-    cond test (set out (length ends) i) out ≡ endsFilled (ends ++ only test i) xs
-put-only ends xs out false i p = rw append-nil p
-put-only ends xs out true i p =
-    let more = ends ++ (i ∷ []) in
-    let n : length more ≡ length ends + 1 = length-append ends (i ∷ []) in
-    rw n (filled-next
-    (λ k. getD more k 0)
-    (length ends)
-    xs
-    out
-    i
-    (p ∙ filled-cong (λ k. getD ends k 0) (λ k. getD more k 0) 0 (length ends) xs (λ k l r. sym (List·getD-append ends (i ∷ []) 0 k (omega arith))))
-    (sym (getD-append-seam ends i [] 0)))
-
-module _ (marks : List ℕ) (b : ℕ) where
-  zone-ends-next : (n : ℕ) →
-      (zoneEnds marks b n ++ only (beginsAt marks b n) n) ++ only (endsAt marks b n) n ≡ zoneEnds marks b (n + 1)
-  unfolding zoneEnds
-  zone-ends-next n = rw add-one (append-assoc (zoneEnds marks b n) (only (beginsAt marks b n) n) (only (endsAt marks b n) n))
-
-  -- a turn of the loop that writes: a zone's first station where one begins, its last where one ends
-  pub zone-ends-put : (n : ℕ) (xs out next last : List ℕ) → out ≡ endsFilled (zoneEnds marks b n) xs →
-      next ≡ cond (beginsAt marks b n) (set out (length (zoneEnds marks b n)) n) out →
-      last ≡ cond (endsAt marks b n) (set next (length (zoneEnds marks b n) + one (beginsAt marks b n)) n) next →
-      last ≡ endsFilled (zoneEnds marks b (n + 1)) xs
-  zone-ends-put n xs out next last p q r =
-      let ends = zoneEnds marks b n in
-      let first = only (beginsAt marks b n) n in
-      let l : length (ends ++ first) ≡ length ends + one (beginsAt marks b n) = simp (length-append, only-length) in
-      let two : next ≡ endsFilled (ends ++ first) xs = q ∙ put-only ends xs out (beginsAt marks b n) n p in
-      rw (← zone-ends-next n) (r ∙ (rw l at (put-only (ends ++ first) xs next (endsAt marks b n) n two)))
 
 -- ---- the answer of a good bit and list goes by the room
 pub zones-by-room : (marks zones : List ℕ) (b count : ℕ) → b ≤ lastBit → listOutside (length marks) ≡ false →

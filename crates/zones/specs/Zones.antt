@@ -56,13 +56,9 @@ pairsWritten ends (Refused k) zones = zones
 unfoldable pub zonesList : List ℕ → ℕ → List ℕ → List ℕ
 zonesList marks b zones = pairsWritten (zoneEnds marks b (length marks)) (zonesAnswer marks b zones) zones
 
--- ---- what the private `write_zones` asks and leaves, which its contract alone cites
--- the bit and the marks are in their ranges, and the list has two places for each zone
+-- ---- what the private `write_zones` asks, which its contract alone cites: the bit and the marks are in their ranges, and the list has
+-- two places for each zone
 pub record ZonesFit (marks : List ℕ) (b : ℕ) (zones : List ℕ) : Type 0 where
   pub bit : b ≤ lastBit
   pub short : length marks ≤ greatestList
   pub room : 2 * zoneCount marks b (length marks) ≤ length zones
-
--- the list with all ends from place 0 on
-abbrev pub endsFilled : List ℕ → List ℕ → List ℕ
-endsFilled ends zones = filled (λ k. getD ends k 0) 0 (length ends) zones

@@ -1,10 +1,10 @@
 // docs/RULES.md, "Marks and zones": the zones of a bit.
 ghost use mathlib.Core.Path.{_≡_};
-ghost use mathlib.Core.Bool.{cond};
-ghost use Prim.Native.Nat.{_+_, _≤_, _<_};
-ghost use lib.ListN.{length, set};
+ghost use Prim.Native.Nat.{_≤_, _<_};
+ghost use lib.ListN.{length};
+ghost use Rattle.whole.specs.Placed.{placed, Room, Wrote};
 ghost use Rattle.terms.specs.Limits.{lastBit};
-ghost use Rattle.zones.specs.Zones.{hasBit, beginsAt, endsAt, zoneEnds, zoneCount, zonesAnswer, zonesList, ZonesFit, endsFilled};
+ghost use Rattle.zones.specs.Zones.{hasBit, beginsAt, endsAt, only, zoneEnds, zoneCount, zonesAnswer, zonesList, ZonesFit};
 use terms::Answer;
 
 // Whether the mark of station `i` has the bit. Beyond the last station there is none.
@@ -53,8 +53,8 @@ fn count_zones(marks: &[u8], bit: u32) -> usize
 
 // Stores a station at the place `at` where the test holds. The answer is the next place.
 fn put_if(test: bool, station: u16, list: &mut [u16], at: usize) -> usize
-    requires { ⌜ at + cond test 1 0 ≤ length (now list) ⌝ }
-    ensures { λ r. ⌜ (r ≡ at + cond test 1 0) × (now (list .exit) ≡ cond test (set (now (list .entry)) at station) (now (list .entry))) ⌝ }
+    requires { ⌜ Room (only test station) at (now list) ⌝ }
+    ensures { λ r. ⌜ Wrote (only test station) at r (now (list .entry)) (now (list .exit)) ⌝ }
 {
     if test {
         list[at] = station;
@@ -66,7 +66,7 @@ fn put_if(test: bool, station: u16, list: &mut [u16], at: usize) -> usize
 // Writes the first and the last station of each zone, from place 0 on.
 fn write_zones(marks: &[u8], bit: u32, list: &mut [u16])
     requires { ⌜ ZonesFit (now marks) bit (now list) ⌝ }
-    ensures { λ _. ⌜ now (list .exit) ≡ endsFilled (zoneEnds (now (marks .entry)) bit (length (now (marks .entry)))) (now (list .entry)) ⌝ }
+    ensures { λ _. ⌜ now (list .exit) ≡ placed (zoneEnds (now (marks .entry)) bit (length (now (marks .entry)))) 0 (now (list .entry)) ⌝ }
 {
     let mut at: usize = 0;
     for i in 0..marks.len() {

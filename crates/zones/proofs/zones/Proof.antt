@@ -9,6 +9,7 @@ use borrow.Author.Tests.{lt-ltb, le-ltb}
 use native.Mathlib.Omega.{arith}
 use lib.Dec.{ltb}
 use lib.ListN.{length}
+use Rattle.whole.proofs.Placed.{wrote-filled}
 use Rattle.terms.specs.Answers.{listOutside, refuse}
 use Rattle.terms.specs.Limits.{lastBit, greatestList}
 use Rattle.terms.specs.Refusals.{bitRefused, listRefused, zoneRoomRefused}
@@ -85,7 +86,8 @@ returns-4 c =
     let w = c .before .before in let left = w .before .before in let n = left .before in
     let a = start n .args in
     let r = listed (a .marks .now) (a .list .now) (a .bit) (Number (n .count-zones .result)) (by-room n ∙ rw (le-ltb _ _ (left .if3 .left))) in
-    (r .0, (rw (zone-ends-twice, ← n .count-zones .ensures) at (w .write-zones .ensures)) ∙ r .1)
+    let filled = wrote-filled (record { behind = refl; text = w .write-zones .ensures }) in
+    (r .0, (rw (zone-ends-twice, ← n .count-zones .ensures) at filled) ∙ r .1)
 
 pub zones-spec : {M : Type 1} → statement M
 zones-spec =
