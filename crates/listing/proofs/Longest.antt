@@ -22,6 +22,7 @@ use Rattle.file.specs.File.{letters, roadIn, version}
 use Rattle.file.specs.Reading.{readRoad, readVerdict}
 use Rattle.file.proofs.Sound.{accepted-file, read-by}
 use Rattle.road_marks.specs.RoadMarks.{roadMark, markRoadAnswer, markRoadList}
+use Rattle.road_marks.proofs.OwnMarks.{marked-length}
 use Rattle.zones.specs.Zones.{zoneEnds, zoneCount}
 use Rattle.zones.proofs.Laws.{zones-at-most}
 use Rattle.listing.specs.Listing.{joined, digit, item, line, refusedWord, firstLine, zoneLine, bitLetters, bitLines, ownMarks, roadText, textOf, listing, HoldsListings}
@@ -99,10 +100,9 @@ own-marks-length r =
 road-at-most : (r : Road) → roadVerdict r ≡ Accepted → length (roadText r) ≤ greatestListing
 unfolding roadText
 road-at-most r accepted =
-    let sound = accepted-road r accepted in
-    let stations : length (ownMarks r) ≤ greatestMarkedRoad + 1 = omega (arith, own-marks-length r, sound .length-high) in
+    let stations : length (ownMarks r) ≤ greatestMarkedRoad + 1 = omega (arith, own-marks-length r, marked-length r accepted) in
     let zones = joined-at-most (bitLines (ownMarks r)) (14 * mostZones) (length bitLetters) (bit-at-most (ownMarks r) stations) in
-    simp length-append (omega (arith, first-at-most (r .speed) (r .purpose) (omega (arith, sound .speed-high))))
+    simp length-append (omega (arith, first-at-most (r .speed) (r .purpose) (omega (arith, accepted-road r accepted .speed-high))))
 
 pub listing-at-most : HoldsListings greatestListing
 unfolding listing

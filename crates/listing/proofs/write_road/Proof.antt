@@ -6,7 +6,7 @@ use borrow.Author.Needs.{needs}
 use native.Mathlib.Omega.{arith}
 use lib.ListN.{length}
 use lib.Seq.{length-take-le}
-use Rattle.road.proofs.Accepted.{accepted-road}
+use Rattle.road_marks.proofs.OwnMarks.{marked-length}
 use Rattle.listing.specs.Listing.{roadText}
 use Rattle.listing.proofs.Lent.{own-marks-front}
 use Rattle.listing.proofs.Put.{put-join}
@@ -56,7 +56,7 @@ start m = needed m .before .before .before .before
 
 -- the array has a place for each station of an accepted road
 room : (m : tie.After-mark-road) → start m .args .road .length + 1 ≤ length (m .mark-road .last .1 .0)
-room m = omega (arith, m .mark-road .kept .1 .0, accepted-road _ (start m .pre) .length-high)
+room m = omega (arith, m .mark-road .kept .1 .0, marked-length _ (start m .pre))
 
 array-share-prefix-marks : tie.Need-array-share-prefix-marks
 array-share-prefix-marks c = room (c .before .before)
@@ -67,7 +67,7 @@ slice-aggregate-write-zones-text c = sym (length-take-le _ _ (room (c .before .b
 write-zones-text-requires : tie.Need-write-zones-text-requires
 write-zones-text-requires c κs =
     let m = c .before .before .before .before in
-    rw (length-take-le _ _ (room m)) (omega (arith, accepted-road _ (start m .pre) .length-high))
+    rw (length-take-le _ _ (room m)) (omega (arith, marked-length _ (start m .pre)))
 
 same-length : tie.Need-same-length
 same-length c = search needs
