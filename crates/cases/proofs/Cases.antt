@@ -4,7 +4,7 @@ use Rattle.whole.specs.Fill.{filled}
 use Rattle.whole.specs.Floor.{floorDiv}
 use Rattle.distance.specs.Distance.{requiredDistance, levelParts, upToFive}
 use Rattle.crest.specs.Crest.{crestLength, leastEven, adequate, withinRoot}
-use Rattle.road.specs.Road.{roadVerdict, curvesVerdict, curveVerdict}
+use Rattle.road.specs.Road.{roadVerdict, numbersVerdict, curvesVerdict, curveVerdict}
 use Rattle.heights.specs.Profile.{storedHeight, exactHeight, exactFrom}
 use Rattle.heights.specs.Heights.{heightsAnswer, heightsList, ownHeights}
 use Rattle.verdicts.specs.Verdicts.{sightVerdict, lookVerdict}
@@ -13,7 +13,7 @@ use Rattle.sight.specs.Operations.{sightAnswer}
 use Rattle.cases.specs.Cases.{StarredCases, curve, crestRoad, heightAt}
 
 pub starred-cases : StarredCases
-unfolding requiredDistance levelParts upToFive crestLength leastEven adequate withinRoot roadVerdict curvesVerdict curveVerdict heightAt ownHeights heightsList heightsAnswer filled storedHeight exactHeight exactFrom floorDiv crestRoad curve sightVerdict lookVerdict sightAnswer availableSight sightFrom reach seen everyBetween every clears
+unfolding requiredDistance levelParts upToFive crestLength leastEven adequate withinRoot roadVerdict numbersVerdict curvesVerdict curveVerdict heightAt ownHeights heightsList heightsAnswer filled storedHeight exactHeight exactFrom floorDiv crestRoad curve sightVerdict lookVerdict sightAnswer availableSight sightFrom reach seen everyBetween every clears
 starred-cases = record {
   distances = (refl, refl, refl, refl, refl);
   crests = (refl, refl, refl, refl);

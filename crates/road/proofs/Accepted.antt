@@ -18,7 +18,7 @@ use Rattle.terms.specs.declared.Verdict.the-variants.{Accepted}
 use Rattle.terms.proofs.Laws.{fault-accepted, first-fault-accepted, no-difference, inside, inside-ℤ}
 use Rattle.road.specs.declared.Curve.{Curve}
 use Rattle.road.specs.declared.Road.{Road}
-use Rattle.road.specs.Road.{half, begin, end, startOf, curvesOf, gradeOutside, lengthOutside, placeOutside, curveVerdict, curvesVerdict, roadVerdict}
+use Rattle.road.specs.Road.{half, begin, end, startOf, curvesOf, gradeOutside, lengthOutside, placeOutside, curveVerdict, curvesVerdict, numbersVerdict, roadVerdict}
 use Rattle.road.specs.Order.{Placed, InOrder, CurveInRange}
 
 -- ---- curves
@@ -68,10 +68,11 @@ pub record SoundRoad (r : Road) : Type 0 where
   pub in-range : Each CurveInRange (curvesOf r)
 
 pub accepted-road : (r : Road) → roadVerdict r ≡ Accepted → SoundRoad r
-unfolding roadVerdict
+unfolding roadVerdict numbersVerdict
 accepted-road r e =
     let count = fault-accepted (ltb greatestCurveCount (r .count)) curveCountRefused _ e in
-    let speed = fault-accepted (outside leastSpeed greatestSpeed (r .speed)) speedRefused _ (count .1) in
+    let both = first-fault-accepted (numbersVerdict r) _ (count .1) in
+    let speed = fault-accepted (outside leastSpeed greatestSpeed (r .speed)) speedRefused _ (both .0) in
     let purpose = fault-accepted (outside firstDecision lastPurpose (r .purpose)) purposeRefused _ (speed .1) in
     let length = fault-accepted (outside 1 greatestRoad (r .length)) roadLengthRefused _ (purpose .1) in
     let start = fault-accepted (outsideℤ lowestStart highestStart (r .«start_height»)) startRefused _ (length .1) in
@@ -82,7 +83,7 @@ accepted-road r e =
     let h = inside-ℤ lowestStart highestStart (r .«start_height») (start .0) in
     let g = inside-ℤ (negℤ (pos greatestGrade)) (pos greatestGrade) (r .«first_grade») (grade .0) in
     let n = nltb→le greatestCurveCount (r .count) (count .0) in
-    let curves = accepted-curves (r .length) (startOf r) (curvesOf r) (grade .1) in
+    let curves = accepted-curves (r .length) (startOf r) (curvesOf r) (both .1) in
     search
 
 -- ---- one of its curves

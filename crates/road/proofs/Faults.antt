@@ -12,7 +12,7 @@ use Rattle.terms.proofs.Laws.{ByteFault, fault-byte, first-fault-byte}
 use Rattle.terms.specs.declared.Verdict.the-variants.{Accepted}
 use Rattle.road.specs.declared.Curve.{Curve}
 use Rattle.road.specs.declared.Road.{Road}
-use Rattle.road.specs.Road.{begin, end, startOf, gradeOutside, lengthOutside, placeOutside, curvesOf, curveVerdict, curvesVerdict, roadVerdict}
+use Rattle.road.specs.Road.{begin, end, startOf, gradeOutside, lengthOutside, placeOutside, curvesOf, curveVerdict, curvesVerdict, numbersVerdict, roadVerdict}
 use Rattle.road.proofs.Places.{next-curve}
 
 -- ---- the curves from a place on
@@ -42,13 +42,17 @@ curves-verdict-byte n before [] = tt
 curves-verdict-byte n before (c ∷ cs) =
     first-fault-byte (curveVerdict n before c) (curvesVerdict n c cs) (curve-verdict-byte n before c) (curves-verdict-byte n c cs)
 
+numbers-verdict-byte : (r : Road) → ByteFault (numbersVerdict r)
+unfolding numbersVerdict
+numbers-verdict-byte r =
+    fault-byte (outside leastSpeed greatestSpeed (r .speed)) _ _ (omega arith)
+    (fault-byte (outside firstDecision lastPurpose (r .purpose)) _ _ (omega arith)
+    (fault-byte (outside 1 greatestRoad (r .length)) _ _ (omega arith)
+    (fault-byte (outsideℤ lowestStart highestStart (r .«start_height»)) _ _ (omega arith)
+    (fault-byte (gradeOutside (r .«first_grade»)) _ _ (omega arith) tt))))
+
 pub road-verdict-byte : (r : Road) → ByteFault (roadVerdict r)
 unfolding roadVerdict
 road-verdict-byte r =
     fault-byte (ltb greatestCurveCount (r .count)) _ _ (omega arith)
-    (fault-byte (outside leastSpeed greatestSpeed (r .speed)) _ _ (omega arith)
-    (fault-byte (outside firstDecision lastPurpose (r .purpose)) _ _ (omega arith)
-    (fault-byte (outside 1 greatestRoad (r .length)) _ _ (omega arith)
-    (fault-byte (outsideℤ lowestStart highestStart (r .«start_height»)) _ _ (omega arith)
-    (fault-byte (gradeOutside (r .«first_grade»)) _ _ (omega arith)
-    (curves-verdict-byte (r .length) (startOf r) (curvesOf r)))))))
+    (first-fault-byte (numbersVerdict r) _ (numbers-verdict-byte r) (curves-verdict-byte (r .length) (startOf r) (curvesOf r)))

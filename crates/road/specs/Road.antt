@@ -61,13 +61,17 @@ unfoldable pub curvesVerdict : ℕ → Curve → List Curve → Verdict
 curvesVerdict n before [] = Accepted
 curvesVerdict n before (c ∷ cs) = firstFault (curveVerdict n before c) (curvesVerdict n c cs)
 
--- 4, 6, 7, 8, 9, 10, then the curves; the first comes after the road's start
-unfoldable pub roadVerdict : Road → Verdict
-roadVerdict r =
-    fault (ltb greatestCurveCount (r .count)) curveCountRefused
-    (fault (outside leastSpeed greatestSpeed (r .speed)) speedRefused
+-- a road's own numbers, the curves left out: 6, 7, 8, 9, 10
+unfoldable pub numbersVerdict : Road → Verdict
+numbersVerdict r =
+    fault (outside leastSpeed greatestSpeed (r .speed)) speedRefused
     (fault (outside firstDecision lastPurpose (r .purpose)) purposeRefused
     (fault (outside 1 greatestRoad (r .length)) roadLengthRefused
     (fault (outsideℤ lowestStart highestStart (r .«start_height»)) startRefused
-    (fault (gradeOutside (r .«first_grade»)) gradeRefused
-    (curvesVerdict (r .length) (startOf r) (curvesOf r)))))))
+    (fault (gradeOutside (r .«first_grade»)) gradeRefused Accepted))))
+
+-- 4, then the road's numbers, then its curves; the first comes after the road's start
+unfoldable pub roadVerdict : Road → Verdict
+roadVerdict r =
+    fault (ltb greatestCurveCount (r .count)) curveCountRefused
+    (firstFault (numbersVerdict r) (curvesVerdict (r .length) (startOf r) (curvesOf r)))

@@ -1,9 +1,8 @@
 // docs/RULES.md, "The road and its heights" and "Road file": a road as a value, and its refusals.
 ghost use Prim.Native.Nat.{_≤_};
 ghost use mathlib.Core.Path.{_≡_};
-ghost use Rattle.terms.specs.Answers.{firstFault};
 ghost use Rattle.terms.specs.Limits.{greatestCurveCount};
-ghost use Rattle.road.specs.Road.{half, begin, end, startOf, gradeOutside, curvesOf, curveVerdict, curvesVerdict, roadVerdict};
+ghost use Rattle.road.specs.Road.{half, begin, end, startOf, gradeOutside, curvesOf, curveVerdict, curvesVerdict, numbersVerdict, roadVerdict};
 use terms::Verdict;
 
 // A curve: the station where its two straights meet (PVI), its length in metres, and its grade out.
@@ -37,8 +36,7 @@ fn grade_outside(grade: i16) -> bool
 
 // Refusals 6 to 10 of a road's own numbers, the curves left out.
 fn numbers_verdict(road: Road) -> Verdict
-    requires { ⌜ road .count ≤ greatestCurveCount ⌝ }
-    ensures { λ r. ⌜ roadVerdict road ≡ firstFault r (curvesVerdict (road .length) (startOf road) (curvesOf road)) ⌝ }
+    ensures { λ r. ⌜ r ≡ numbersVerdict road ⌝ }
 {
     let speed = road.speed as u32;
     if terms::outside(terms::LEAST_SPEED, terms::GREATEST_SPEED, speed) {

@@ -2,14 +2,14 @@
 -- as its bits, which give the number back since it fits.
 use mathlib.Core.Path.{_≡_, sym, _∙_}
 use borrow.Author.Needs.{needs}
-use borrow.Author.Tests.{le-ltb}
 use mir.Syntax.{w16, w32}
 use Rattle.whole.proofs.Machine.{got}
 use Rattle.terms.specs.Answers.{outsideℤ, fault}
 use Rattle.terms.specs.Limits.{lowestStart, highestStart}
 use Rattle.terms.specs.Refusals.{startRefused, gradeRefused}
 use Rattle.road.specs.declared.Road.{Road}
-use Rattle.road.specs.Road.{startOf, gradeOutside, curvesOf, curvesVerdict, roadVerdict}
+use Rattle.terms.specs.declared.Verdict.the-variants.{Accepted}
+use Rattle.road.specs.Road.{gradeOutside, numbersVerdict}
 use Rattle.road.proofs.numbers_verdict.Statement.{statement}
 use Rattle.road.proofs.numbers_verdict.Tie as tie
 
@@ -20,8 +20,8 @@ outside-requires : tie.Need-outside-requires
 outside-requires c κs = search needs
 
 returns : tie.Need-returns
-unfolding roadVerdict
-returns c = simp (le-ltb _ _ (c .before .before .before .pre), sym (c .before .outside .ensures) ∙ c .if1 .taken)
+unfolding numbersVerdict
+returns c = simp (sym (c .before .outside .ensures) ∙ c .if1 .taken)
 
 cast-purpose : tie.Need-cast-purpose
 cast-purpose c = search needs
@@ -30,11 +30,10 @@ outside-requires-2 : tie.Need-outside-requires-2
 outside-requires-2 c κs = search needs
 
 returns-2 : tie.Need-returns-2
-unfolding roadVerdict
+unfolding numbersVerdict
 returns-2 c =
     let speed = c .before .before .before in
     simp (
-      le-ltb _ _ (speed .before .before .before .pre),
       sym (speed .before .outside .ensures) ∙ speed .if1 .left,
       sym (c .before .outside2 .ensures) ∙ c .if2 .taken,
     )
@@ -43,12 +42,11 @@ outside-requires-3 : tie.Need-outside-requires-3
 outside-requires-3 c κs = search needs
 
 returns-3 : tie.Need-returns-3
-unfolding roadVerdict
+unfolding numbersVerdict
 returns-3 c =
     let purpose = c .before .before in
     let speed = purpose .before .before .before in
     simp (
-      le-ltb _ _ (speed .before .before .before .pre),
       sym (speed .before .outside .ensures) ∙ speed .if1 .left,
       sym (purpose .before .outside2 .ensures) ∙ purpose .if2 .left,
       sym (c .before .outside3 .ensures) ∙ c .if3 .taken,
@@ -65,26 +63,25 @@ module _ (c : tie.Else3) where
   abbrev given : Road
   given = speed .before .before .before .args .road
 
-  past-length : roadVerdict given ≡ fault (outsideℤ lowestStart highestStart (given .«start_height»)) startRefused
-      (fault (gradeOutside (given .«first_grade»)) gradeRefused (curvesVerdict (given .length) (startOf given) (curvesOf given)))
-  unfolding roadVerdict
+  past-length : numbersVerdict given ≡ fault (outsideℤ lowestStart highestStart (given .«start_height»)) startRefused
+      (fault (gradeOutside (given .«first_grade»)) gradeRefused Accepted)
+  unfolding numbersVerdict
   past-length =
       simp (
-        le-ltb _ _ (speed .before .before .before .pre),
         sym (speed .before .outside .ensures) ∙ speed .if1 .left,
         sym (purpose .before .outside2 .ensures) ∙ purpose .if2 .left,
         sym (c .before .outside3 .ensures) ∙ c .if3 .left,
       )
 
 returns-4 : tie.Need-returns-4
-returns-4 c = past-length (c .before .before) ∙ simp (rw (got w32 _ (c .before .struct-told .given .1 .1 .1 .0 .1)) at (c .if4 .taken))
+returns-4 c = sym (past-length (c .before .before) ∙ simp (rw (got w32 _ (c .before .struct-told .given .1 .1 .1 .0 .1)) at (c .if4 .taken)))
 
 grade-outside-requires : tie.Need-grade-outside-requires
 grade-outside-requires c κs = search needs
 
 -- past the test of the start height, with what the call told of the grade
 past-start : (c : tie.After-grade-outside) → let road = given (c .before .before .before .before) in
-    roadVerdict road ≡ fault (c .grade-outside .result) gradeRefused (curvesVerdict (road .length) (startOf road) (curvesOf road))
+    numbersVerdict road ≡ fault (c .grade-outside .result) gradeRefused Accepted
 past-start c =
     let start = c .before .before in
     past-length (start .before .before)
@@ -94,10 +91,10 @@ past-start c =
     )
 
 returns-5 : tie.Need-returns-5
-returns-5 c = past-start (c .before) ∙ simp (c .if5 .taken)
+returns-5 c = sym (past-start (c .before) ∙ simp (c .if5 .taken))
 
 returns-6 : tie.Need-returns-6
-returns-6 c = past-start (c .before) ∙ simp (c .if5 .left)
+returns-6 c = sym (past-start (c .before) ∙ simp (c .if5 .left))
 
 pub numbers-verdict-spec : {M : Type 1} → statement M
 numbers-verdict-spec =
