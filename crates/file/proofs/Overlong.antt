@@ -1,7 +1,7 @@
 -- A file longer than any road file is refused, by its first 16 bytes alone. So the programs need to read no more of a file than
 -- one byte beyond the longest: what is read of that front is what is read of the whole.
 use mathlib.Core.Path.{_≡_, refl, sym, _∙_}
-use mathlib.Core.Bool.{Bool, true, false, cond, not}
+use mathlib.Core.Bool.{Bool, true, false, cond, not, _||_}
 use mathlib.Core.List.{List}
 use Prim.Native.Nat.{ℕ, _≤_, _<_}
 use native.Mathlib.Omega.{arith}
@@ -15,14 +15,14 @@ use Rattle.terms.specs.Refusals.{lettersRefused, versionRefused, curveCountRefu
 use Rattle.terms.specs.declared.Verdict.{Verdict}
 use Rattle.terms.specs.declared.Verdict.the-variants.{Accepted, Fault}
 use Rattle.road.specs.Road.{roadVerdict}
-use Rattle.file.specs.File.{byteAt, numberAt, fileLength, curveCount, lettersNumber, version, roadIn}
-use Rattle.file.specs.Reading.{headerVerdict, readVerdict, enoughBytes, EnoughToRead}
+use Rattle.file.specs.File.{byteAt, numberAt, fileLength, curveCount, version, roadIn}
+use Rattle.file.specs.Reading.{differs, headerVerdict, readVerdict, enoughBytes, EnoughToRead}
 use Rattle.file.proofs.Sound.{read-by}
 
 -- its refusal: 2, 3, 4, else 5
 overlongFault : List ℕ → ℕ
 overlongFault s =
-    cond (not (eqb (numberAt s 0 3) lettersNumber)) lettersRefused
+    cond (differs s 0 || differs s 1 || differs s 2) lettersRefused
     (cond (not (eqb (numberAt s 3 2) version)) versionRefused
     (cond (ltb greatestCurveCount (curveCount s)) curveCountRefused totalRefused))
 
@@ -40,7 +40,7 @@ unfolding readVerdict headerVerdict overlongFault
 overlong s l =
     let total = not (eqb (length s) (fileLength (curveCount s))) in
     rw (le-ltb (length s) (fileLength 0) (omega arith))
-    (else-total (not (eqb (numberAt s 0 3) lettersNumber)) (not (eqb (numberAt s 3 2) version)) (ltb greatestCurveCount (curveCount s)) total (roadVerdict (roadIn s))
+    (else-total (differs s 0 || differs s 1 || differs s 2) (not (eqb (numberAt s 3 2) version)) (ltb greatestCurveCount (curveCount s)) total _
     (λ e. let few = ltb-false greatestCurveCount (curveCount s) e in simp (ne-eqb (length s) (fileLength (curveCount s)) (λ same. omega arith))))
 
 module _ (s : List ℕ) (l : enoughBytes ≤ length s) where

@@ -1,10 +1,11 @@
 -- What acceptance of a file says: its header is sound and its road accepted; and the other way round.
 use mathlib.Core.Path.{_≡_, refl, ap, _∙_}
-use mathlib.Core.Bool.{not}
+use mathlib.Core.Bool.{not, _||_}
 use mathlib.Core.List.{List}
 use Prim.Native.Nat.{ℕ, _≤_}
 use native.Mathlib.Omega.{arith}
 use borrow.Author.Tests.{le-ltb, eq-eqb}
+use mir.Facts.{or-no}
 use lib.Dec.{ltb, eqb, nltb→le}
 use lib.ListN.{length}
 use Rattle.terms.specs.Limits.{greatestCurveCount}
@@ -15,12 +16,14 @@ use Rattle.terms.proofs.Laws.{ByteFault, fault-accepted, first-fault-accepted, 
 use Rattle.road.specs.Road.{roadVerdict}
 use Rattle.road.proofs.Faults.{road-verdict-byte}
 use Rattle.file.specs.declared.ReadRoad.{ReadRoad}
-use Rattle.file.specs.File.{numberAt, fileLength, curveCount, lettersNumber, version, roadIn}
-use Rattle.file.specs.Reading.{headerVerdict, readVerdict, given, readRoad}
+use Rattle.file.specs.File.{byteAt, numberAt, fileLength, curveCount, letters, version, roadIn}
+use Rattle.file.specs.Reading.{differs, headerVerdict, readVerdict, roadOrNone, readRoad}
 
 -- ---- the header
 pub record SoundHeader (s : List ℕ) : Type 0 where
-  pub spelled : numberAt s 0 3 ≡ lettersNumber
+  pub letter-V : byteAt s 0 ≡ byteAt letters 0
+  pub letter-C : byteAt s 1 ≡ byteAt letters 1
+  pub letter-P : byteAt s 2 ≡ byteAt letters 2
   pub first-version : numberAt s 3 2 ≡ version
   pub count : curveCount s ≤ greatestCurveCount
   pub total : length s ≡ fileLength (curveCount s)
@@ -29,15 +32,13 @@ pub accepted-header : (s : List ℕ) → headerVerdict s ≡ Accepted → SoundH
 unfolding headerVerdict
 accepted-header s e =
     let short = fault-accepted (ltb (length s) (fileLength 0)) shortFileRefused _ e in
-    let spelled = fault-accepted (not (eqb (numberAt s 0 3) lettersNumber)) lettersRefused _ (short .1) in
+    let spelled = fault-accepted (differs s 0 || differs s 1 || differs s 2) lettersRefused _ (short .1) in
     let versions = fault-accepted (not (eqb (numberAt s 3 2) version)) versionRefused _ (spelled .1) in
     let many = fault-accepted (ltb greatestCurveCount (curveCount s)) curveCountRefused _ (versions .1) in
     let longer = fault-accepted (not (eqb (length s) (fileLength (curveCount s)))) totalRefused _ (many .1) in
-    let v = no-difference (numberAt s 0 3) lettersNumber (spelled .0) in
-    let w = no-difference (numberAt s 3 2) version (versions .0) in
-    let n = nltb→le greatestCurveCount (curveCount s) (many .0) in
-    let t = no-difference (length s) (fileLength (curveCount s)) (longer .0) in
-    search
+    let third = or-no (differs s 0 || differs s 1) (differs s 2) (spelled .0) in
+    let first = or-no (differs s 0) (differs s 1) (third .0) in
+    search (no-difference, nltb→le)
 
 -- ---- the file: its header, and the road in it
 pub record SoundFile (s : List ℕ) : Type 0 where
@@ -54,11 +55,11 @@ pub sound-file : (s : List ℕ) → SoundFile s → readVerdict s ≡ Accepted
 unfolding readVerdict headerVerdict
 sound-file s f =
     let h = f .header in
-    simp (le-ltb (length s) (fileLength 0) (omega arith), eq-eqb _ _ (h .spelled), eq-eqb _ _ (h .first-version), le-ltb _ _ (h .count), eq-eqb _ _ (h .total))
+    simp (le-ltb (length s) (fileLength 0) (omega arith), eq-eqb _ _ (h .letter-V), eq-eqb _ _ (h .letter-C), eq-eqb _ _ (h .letter-P), eq-eqb _ _ (h .first-version), le-ltb _ _ (h .count), eq-eqb _ _ (h .total))
     (f .road)
 
 -- ---- what reading answers, by its verdict
-pub read-by : (s : List ℕ) (v : Verdict) → readVerdict s ≡ v → readRoad s ≡ record { verdict = v; road = given v (roadIn s) }
+pub read-by : (s : List ℕ) (v : Verdict) → readVerdict s ≡ v → readRoad s ≡ record { verdict = v; road = roadOrNone v (roadIn s) }
 unfolding readRoad
 read-by s v e = rw e refl
 
@@ -75,9 +76,9 @@ module _ (s : List ℕ) (r : ReadRoad) (e : r ≡ readRoad s) where
 pub read-verdict-byte : (s : List ℕ) → ByteFault (readVerdict s)
 unfolding readVerdict headerVerdict
 read-verdict-byte s =
-    first-fault-byte (headerVerdict s) (roadVerdict (roadIn s))
+    first-fault-byte (headerVerdict s) _
     (fault-byte (ltb (length s) (fileLength 0)) _ _ (omega arith)
-    (fault-byte (not (eqb (numberAt s 0 3) lettersNumber)) _ _ (omega arith)
+    (fault-byte (differs s 0 || differs s 1 || differs s 2) _ _ (omega arith)
     (fault-byte (not (eqb (numberAt s 3 2) version)) _ _ (omega arith)
     (fault-byte (ltb greatestCurveCount (curveCount s)) _ _ (omega arith)
     (fault-byte (not (eqb (length s) (fileLength (curveCount s)))) _ _ (omega arith) tt)))))

@@ -22,12 +22,9 @@ numberAt s k zero = 0
 numberAt s k (suc w) = byteAt s k + 256 * numberAt s (k + 1) w
 
 -- ---- the road in a file
--- how a file begins: the letters VCP, which are a number of three bytes, and the version
+-- how a file begins: the letters VCP, and the version
 abbrev pub letters : List ℕ
 letters = 86 ∷ 67 ∷ 80 ∷ []
-
-abbrev pub lettersNumber : ℕ
-lettersNumber = byteAt letters 0 + 256 * (byteAt letters 1 + 256 * byteAt letters 2)
 
 abbrev pub version : ℕ
 version = 1

@@ -1,6 +1,6 @@
 -- docs/RULES.md, "Road file": reading, and how much of a file is enough to read.
 use Prim.Native.Nat.{ℕ, _+_, _≤_}
-use mathlib.Core.Bool.{not}
+use mathlib.Core.Bool.{Bool, not, _||_}
 use mathlib.Core.List.{List}
 use mathlib.Core.Path.{_≡_}
 use lib.Dec.{ltb, eqb}
@@ -13,13 +13,17 @@ use Rattle.terms.specs.declared.Verdict.the-variants.{Accepted, Fault}
 use Rattle.road.specs.declared.Road.{Road}
 use Rattle.road.specs.Road.{roadVerdict}
 use Rattle.file.specs.declared.ReadRoad.{ReadRoad}
-use Rattle.file.specs.File.{numberAt, fileLength, curveCount, roadIn, noRoad, lettersNumber, version}
+use Rattle.file.specs.File.{byteAt, numberAt, fileLength, curveCount, roadIn, noRoad, letters, version}
+
+-- byte k is not letter k of VCP
+abbrev pub differs : List ℕ → ℕ → Bool
+differs s k = not (eqb (byteAt s k) (byteAt letters k))
 
 -- the header and the length, in order: 1 fewer than 16 bytes, 2 wrong letters, 3 version not 1, 4 n over 32, 5 total length wrong
 unfoldable pub headerVerdict : List ℕ → Verdict
 headerVerdict s =
     fault (ltb (length s) (fileLength 0)) shortFileRefused
-    (fault (not (eqb (numberAt s 0 3) lettersNumber)) lettersRefused
+    (fault (differs s 0 || differs s 1 || differs s 2) lettersRefused
     (fault (not (eqb (numberAt s 3 2) version)) versionRefused
     (fault (ltb greatestCurveCount (curveCount s)) curveCountRefused
     (fault (not (eqb (length s) (fileLength (curveCount s)))) totalRefused
@@ -30,13 +34,13 @@ unfoldable pub readVerdict : List ℕ → Verdict
 readVerdict s = firstFault (headerVerdict s) (roadVerdict (roadIn s))
 
 -- the road where it is accepted, else zeros
-abbrev pub given : Verdict → Road → Road
-given Accepted r = r
-given (Fault k) r = noRoad
+abbrev pub roadOrNone : Verdict → Road → Road
+roadOrNone Accepted r = r
+roadOrNone (Fault k) r = noRoad
 
 -- the verdict and beside it the file's road, all zero where it is refused
 unfoldable pub readRoad : List ℕ → ReadRoad
-readRoad s = record { verdict = readVerdict s; road = given (readVerdict s) (roadIn s) }
+readRoad s = record { verdict = readVerdict s; road = roadOrNone (readVerdict s) (roadIn s) }
 
 -- ---- how much is enough
 -- one byte more than the longest road file has

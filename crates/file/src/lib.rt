@@ -41,9 +41,6 @@ const CURVE_BYTES: usize = 6;
 // One byte more than the longest road file has. It is enough to read: a longer file is refused as its first so many bytes are.
 pub const ENOUGH_BYTES: usize = HEADER_BYTES + CURVE_BYTES * road::CURVE_PLACES + 1;
 
-// The letters VCP, as the number of their three bytes.
-pub const LETTERS: u32 = 0x504356;
-
 // The version that is read and written.
 pub const VERSION: u32 = 1;
 
@@ -155,7 +152,7 @@ fn header_verdict(file: &[u8]) -> Verdict
     if file.len() < HEADER_BYTES {
         return Verdict::Fault(terms::SHORT_FILE_REFUSED);
     }
-    if number_at(file, 0, 3) != LETTERS {
+    if (file[0] != b'V') | (file[1] != b'C') | (file[2] != b'P') {
         return Verdict::Fault(terms::LETTERS_REFUSED);
     }
     if number_at(file, VERSION_AT, 2) != VERSION {

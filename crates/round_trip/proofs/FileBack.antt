@@ -13,7 +13,7 @@ use Rattle.terms.specs.Limits.{greatestCurveCount}
 use Rattle.road.specs.Road.{noCurve}
 use Rattle.file.specs.File.{byteAt, numberAt, fileLength, curveCount, curveAt, roadIn}
 use Rattle.file.proofs.Sound.{SoundHeader}
-use Rattle.writing.specs.Bytes.{bytesOf, headerBytes, curveBytes, fileFront, fileBytes}
+use Rattle.writing.specs.Bytes.{bytesOf, headerBytes, curveBytes, fileUpTo, fileBytes}
 use Rattle.round_trip.specs.RoundTrip.{Bytes}
 use Rattle.round_trip.proofs.Numbers.{number-one, number-below, bytes-back}
 
@@ -29,11 +29,11 @@ module _ (s : List ℕ) (bytes : Bytes s) (f : SoundHeader s) where
   byte k l = rw number-one at (number k 1 (omega arith))
 
   header-back : headerBytes (roadIn s) ≡ take 16 s
-  unfolding headerBytes roadIn
+  unfolding headerBytes roadIn numberAt
   header-back =
       let start = ap (bytesOf 4) (bits-back w32 (number-below s bytes 9 4)) ∙ number 9 4 (omega arith) in
       let grade = ap (bytesOf 2) (bits-back w16 (number-below s bytes 13 2)) ∙ number 13 2 (omega arith) in
-      let two = take-then s 3 2 (rw (f .spelled) at (number 0 3 (omega arith))) (rw (f .first-version) at (number 3 2 (omega arith))) in
+      let two = take-then s 3 2 (rw (f .letter-V, f .letter-C, f .letter-P) at (number 0 3 (omega arith))) (rw (f .first-version) at (number 3 2 (omega arith))) in
       let four = take-then s 6 1 (take-then s 5 1 two (byte 5 (omega arith))) (byte 6 (omega arith)) in
       let six = take-then s 9 4 (take-then s 7 2 four (number 7 2 (omega arith))) start in
       take-then s 15 1 (take-then s 13 2 six grade) (byte 15 (omega arith))
@@ -55,8 +55,8 @@ module _ (s : List ℕ) (bytes : Bytes s) (f : SoundHeader s) where
       filled-at (curveAt s) 0 (curveCount s) (replicate greatestCurveCount noCurve) i noCurve (omega arith) (omega arith)
       (omega (arith, f .count, length-replicate greatestCurveCount noCurve))
 
-  front-back : (n : ℕ) → n ≤ curveCount s → fileFront (roadIn s) n ≡ take (fileLength n) s
-  unfolding fileFront
+  front-back : (n : ℕ) → n ≤ curveCount s → fileUpTo (roadIn s) n ≡ take (fileLength n) s
+  unfolding fileUpTo
   front-back zero h = header-back
   front-back (suc n) h =
       let e : fileLength (suc n) ≡ fileLength n + 6 = omega arith in

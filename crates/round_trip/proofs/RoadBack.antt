@@ -20,9 +20,9 @@ use Rattle.terms.specs.declared.Verdict.the-variants.{Accepted}
 use Rattle.road.specs.declared.Road.{Road}
 use Rattle.road.specs.Road.{noCurve, curvesOf, roadVerdict}
 use Rattle.road.proofs.Accepted.{accepted-road, accepted-curve-at}
-use Rattle.file.specs.File.{byteAt, numberAt, fileLength, curveCount, lettersNumber, version, curveAt, roadIn}
+use Rattle.file.specs.File.{byteAt, numberAt, fileLength, curveCount, letters, version, curveAt, roadIn}
 use Rattle.file.proofs.Sound.{SoundFile}
-use Rattle.writing.specs.Bytes.{bytesOf, headerBytes, curveBytes, fileFront, fileBytes}
+use Rattle.writing.specs.Bytes.{bytesOf, headerBytes, curveBytes, fileUpTo, fileBytes}
 use Rattle.writing.proofs.Bytes.{front-length}
 use Rattle.round_trip.specs.RoundTrip.{SameRoad, cleared}
 use Rattle.round_trip.proofs.Numbers.{number-one, number-first, number-next, number-back}
@@ -30,19 +30,19 @@ use Rattle.round_trip.proofs.Numbers.{number-one, number-first, number-
 -- ---- where the numbers of a road stand in its bytes
 module _ (r : Road) where
   -- the header and n records are the front of more
-  front-number : (n m k w : ℕ) → n ≤ m → k + w ≤ fileLength n → numberAt (fileFront r m) k w ≡ numberAt (fileFront r n) k w
-  unfolding fileFront
+  front-number : (n m k w : ℕ) → n ≤ m → k + w ≤ fileLength n → numberAt (fileUpTo r m) k w ≡ numberAt (fileUpTo r n) k w
+  unfolding fileUpTo
   front-number n zero k w l h = let e : n ≡ 0 = omega arith in rw e
   front-number n (suc m) k w l h =
       ⊎-elim
       (λ e. rw e)
-      (λ u. number-first (fileFront r m) _ k w (omega (arith, front-length r m)) ∙ front-number n m k w (omega arith) h)
+      (λ u. number-first (fileUpTo r m) _ k w (omega (arith, front-length r m)) ∙ front-number n m k w (omega arith) h)
       (eq-or-lt-of-le l)
 
   -- a number of the header, and one of a record
   header-number : (k w n : ℕ) → k + w ≤ 16 → n < 256 ^ w → numberAt (headerBytes r) k w ≡ numberAt (bytesOf w n) 0 w →
       numberAt (fileBytes r) k w ≡ n
-  unfolding fileFront
+  unfolding fileUpTo
   header-number k w n l h e = front-number 0 (r .count) k w (omega arith) l ∙ e ∙ number-back w n h
 
   header-byte : (k n : ℕ) → k < 16 → n < 256 → numberAt (headerBytes r) k 1 ≡ numberAt (bytesOf 1 n) 0 1 → byteAt (fileBytes r) k ≡ n
@@ -50,10 +50,10 @@ module _ (r : Road) where
 
   record-number : (i j w n k : ℕ) → k ≡ fileLength i + j → i < r .count → j + w ≤ 6 → n < 256 ^ w →
       numberAt (curveBytes (getD (r .curves) i noCurve)) j w ≡ numberAt (bytesOf w n) 0 w → numberAt (fileBytes r) k w ≡ n
-  unfolding fileFront
+  unfolding fileUpTo
   record-number i j w n k p u l h e =
       front-number (suc i) (r .count) k w (omega arith) (omega arith)
-      ∙ rw (p, ← front-length r i) (number-next (fileFront r i) _ j w) ∙ e ∙ number-back w n h
+      ∙ rw (p, ← front-length r i) (number-next (fileUpTo r i) _ j w) ∙ e ∙ number-back w n h
 
 -- ---- the ranges of an accepted road
 grade-fits : (z : ℤ) → negℤ (pos greatestGrade) ≤ℤ z → z ≤ℤ pos greatestGrade → SFits w16 z
@@ -113,7 +113,9 @@ module _ (r : Road) (holds : r .count ≤ length (r .curves)) (ok : roadVerdict 
   unfolding headerBytes numberAt
   road-sound = record {
     header = record {
-      spelled = header-number r 0 3 lettersNumber (omega arith) (omega arith) refl;
+      letter-V = header-byte r 0 (byteAt letters 0) (omega arith) (omega arith) refl;
+      letter-C = header-byte r 1 (byteAt letters 1) (omega arith) (omega arith) refl;
+      letter-P = header-byte r 2 (byteAt letters 2) (omega arith) (omega arith) refl;
       first-version = header-number r 3 2 version (omega arith) (omega arith) refl;
       count = rw count-back (accepted-road r ok .count);
       total = front-length r (r .count) ∙ ap fileLength (sym count-back);

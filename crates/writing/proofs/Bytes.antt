@@ -5,13 +5,13 @@ use native.Mathlib.Omega.{arith}
 use lib.ListN.{length, length-append}
 use Rattle.road.specs.declared.Road.{Road}
 use Rattle.file.specs.File.{fileLength}
-use Rattle.writing.specs.Bytes.{bytesOf, headerBytes, curveBytes, fileFront}
+use Rattle.writing.specs.Bytes.{bytesOf, headerBytes, curveBytes, fileUpTo}
 
 pub bytes-length : (w n : ℕ) → length (bytesOf w n) ≡ w
 bytes-length zero n = refl
 bytes-length (suc w) n = ap suc (bytes-length w (n / 256))
 
-pub front-length : (r : Road) (n : ℕ) → length (fileFront r n) ≡ fileLength n
-unfolding fileFront headerBytes curveBytes
+pub front-length : (r : Road) (n : ℕ) → length (fileUpTo r n) ≡ fileLength n
+unfolding fileUpTo headerBytes curveBytes
 front-length r zero = refl
 front-length r (suc n) = simp length-append (omega (arith, front-length r n))

@@ -28,10 +28,10 @@ unfoldable pub curveBytes : Curve → List ℕ
 curveBytes c = bytesOf 2 (c .pvi) ++ bytesOf 2 (c .length) ++ bytesOf 2 (ofZ w16 (c .«grade_out»))
 
 -- the header and the first n records
-unfoldable pub fileFront : Road → ℕ → List ℕ
-fileFront r zero = headerBytes r
-fileFront r (suc n) = fileFront r n ++ curveBytes (getD (r .curves) n noCurve)
+unfoldable pub fileUpTo : Road → ℕ → List ℕ
+fileUpTo r zero = headerBytes r
+fileUpTo r (suc n) = fileUpTo r n ++ curveBytes (getD (r .curves) n noCurve)
 
 -- the whole file
 abbrev pub fileBytes : Road → List ℕ
-fileBytes r = fileFront r (r .count)
+fileBytes r = fileUpTo r (r .count)

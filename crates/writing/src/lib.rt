@@ -47,12 +47,15 @@ fn put_number(number: u32, width: usize, buffer: &mut [u8], at: usize) -> usize
     at + width
 }
 
+// The letters VCP, as the number of their three bytes.
+const LETTERS: u32 = 0x504356;
+
 // Stores the first numbers of a road, from place 0 on.
 fn put_front(road: Road, buffer: &mut [u8]) -> usize
     requires { ⌜ fileLength 0 ≤ length (now buffer) ⌝ }
     ensures { λ r. ⌜ Wrote (frontBytes road) 0 r (now (buffer .entry)) (now (buffer .exit)) ⌝ }
 {
-    let version = put_number(file::LETTERS, 3, buffer, 0);
+    let version = put_number(LETTERS, 3, buffer, 0);
     let speed = put_number(file::VERSION, 2, buffer, version);
     let purpose = put_number(road.speed as u32, 1, buffer, speed);
     let length = put_number(road.purpose as u32, 1, buffer, purpose);

@@ -17,39 +17,41 @@ use Rattle.file.proofs.header_verdict.Tie as tie
 
 -- past the test of the version, those of the number of curves and of the total length decide
 past-version : (c : tie.Else3) →
-    let s = now (c .before .before .before .before .before .before .args .file) in
+    let s = now (c .before .before .before .before .before .before .before .before .args .file) in
     headerVerdict s ≡ fault (ltb greatestCurveCount (curveCount s)) curveCountRefused
     (fault (not (eqb (length s) (fileLength (curveCount s)))) totalRefused Accepted)
 unfolding headerVerdict
 past-version c =
     let letters = c .before .before in
-    let spelled = sym (letters .before .number-at .ensures .0) ∙ letters .if2 .left in
-    let version = sym (c .before .number-at2 .ensures .0) ∙ c .if3 .left in
-    simp (le-ltb _ _ (letters .before .before .if1 .left), eq-eqb _ _ spelled, eq-eqb _ _ version)
+    let version = sym (c .before .number-at .ensures .0) ∙ c .if3 .left in
+    simp (le-ltb _ _ (letters .before .before .before .before .if1 .left), letters .if2 .left, eq-eqb _ _ version)
 
 returns : tie.Need-returns
 unfolding headerVerdict
 returns c = simp (lt-ltb _ _ (c .if1 .taken))
 
-number-at-requires : tie.Need-number-at-requires
-number-at-requires c κs = search needs
+shared-slice-read-if2 : tie.Need-shared-slice-read-if2
+shared-slice-read-if2 c = search needs
+
+shared-slice-read-if2-2 : tie.Need-shared-slice-read-if2-2
+shared-slice-read-if2-2 c = search needs
+
+shared-slice-read-if2-3 : tie.Need-shared-slice-read-if2-3
+shared-slice-read-if2-3 c = search needs
 
 returns-2 : tie.Need-returns-2
 unfolding headerVerdict
-returns-2 c =
-    let spelled = rw (c .before .number-at .ensures .0) at (c .if2 .taken) in
-    simp (le-ltb _ _ (c .before .before .if1 .left), ne-eqb _ _ spelled)
+returns-2 c = simp (le-ltb _ _ (c .before .before .before .before .if1 .left), c .if2 .taken)
 
-number-at-requires-2 : tie.Need-number-at-requires-2
-number-at-requires-2 c κs = search needs
+number-at-requires : tie.Need-number-at-requires
+number-at-requires c κs = search needs
 
 returns-3 : tie.Need-returns-3
 unfolding headerVerdict
 returns-3 c =
     let letters = c .before .before in
-    let spelled = sym (letters .before .number-at .ensures .0) ∙ letters .if2 .left in
-    let version = rw (c .before .number-at2 .ensures .0) at (c .if3 .taken) in
-    simp (le-ltb _ _ (letters .before .before .if1 .left), eq-eqb _ _ spelled, ne-eqb _ _ version)
+    let version = rw (c .before .number-at .ensures .0) at (c .if3 .taken) in
+    simp (le-ltb _ _ (letters .before .before .before .before .if1 .left), letters .if2 .left, ne-eqb _ _ version)
 
 shared-slice-read-count : tie.Need-shared-slice-read-count
 shared-slice-read-count c = search needs
@@ -77,9 +79,11 @@ header-verdict-spec =
     tie.close
     (tie.spec
     returns
-    number-at-requires
+    shared-slice-read-if2
+    shared-slice-read-if2-2
+    shared-slice-read-if2-3
     returns-2
-    number-at-requires-2
+    number-at-requires
     returns-3
     shared-slice-read-count
     returns-4

@@ -9,28 +9,28 @@ use borrow.Author.Needs.{needs}
 use denote.Ref.{now}
 use Rattle.whole.specs.Placed.{Wrote}
 use Rattle.whole.proofs.Placed.{wrote-join, wrote-length}
-use Rattle.writing.specs.Bytes.{headerBytes, fileFront}
+use Rattle.writing.specs.Bytes.{headerBytes, fileUpTo}
 use Rattle.writing.proofs.Bytes.{front-length}
 use Rattle.writing.proofs.put_file.Statement.{statement}
 use Rattle.writing.proofs.put_file.Tie as tie
 
 abbrev Inv-loop : tie.InvT-loop
 Inv-loop buffer₀ road next₀ k₀ k-end buffer next k =
-    (k ≤ k-end) × ((xs : List ℕ) → Wrote (headerBytes road) 0 next₀ xs buffer₀ → Wrote (fileFront road k) 0 next xs buffer)
+    (k ≤ k-end) × ((xs : List ℕ) → Wrote (headerBytes road) 0 next₀ xs buffer₀ → Wrote (fileUpTo road k) 0 next xs buffer)
 
 abbrev μ-loop : tie.MeasureT-loop
 μ-loop buffer₀ road next₀ k₀ k-end buffer next k = k-end - k
 
 stored : (c : tie.At-loop Inv-loop μ-loop) →
     let start = c .before .before .before .before .before .before in
-    Wrote (fileFront (start .args .t1) (c .loop .k)) 0 (c .loop .next) (now (start .args .buffer)) (c .loop .buffer)
+    Wrote (fileUpTo (start .args .t1) (c .loop .k)) 0 (c .loop .next) (now (start .args .buffer)) (c .loop .buffer)
 stored c = c .loop .inv .1 _ (c .before .before .before .put-header .ensures)
 
 put-header-requires : tie.Need-put-header-requires Inv-loop μ-loop
 put-header-requires c κs = search needs
 
 loop-holds : tie.Need-loop-holds Inv-loop μ-loop
-unfolding fileFront
+unfolding fileUpTo
 loop-holds c = (omega arith, λ xs h. h)
 
 cast-curve : tie.Need-cast-curve Inv-loop μ-loop
@@ -56,7 +56,7 @@ loop-less : tie.Need-loop-less Inv-loop μ-loop
 loop-less c = search needs
 
 loop-again : tie.Need-loop-again Inv-loop μ-loop
-unfolding fileFront
+unfolding fileUpTo
 loop-again c =
     let put = c .before .before in
     let top = put .before .before .before .before in
