@@ -1,6 +1,6 @@
 -- A file longer than any road file is refused, by its first 16 bytes alone. So the programs need to read no more of a file than
 -- one byte beyond the longest: what is read of that front is what is read of the whole.
-use mathlib.Core.Path.{_≡_, refl, sym, _∙_}
+use mathlib.Core.Path.{_≡_, refl, sym, ap, _∙_}
 use mathlib.Core.Bool.{Bool, true, false, cond, not, _||_}
 use mathlib.Core.List.{List}
 use Prim.Native.Nat.{ℕ, _≤_, _<_}
@@ -38,18 +38,16 @@ else-total false false false d rest e = rw (e refl)
 overlong : (s : List ℕ) → enoughBytes ≤ length s → readVerdict s ≡ Fault (overlongFault s)
 unfolding readVerdict headerVerdict overlongFault
 overlong s l =
-    let total = not (eqb (length s) (fileLength (curveCount s))) in
     rw (le-ltb (length s) (fileLength 0) (omega arith))
-    (else-total (differs s 0 || differs s 1 || differs s 2) (not (eqb (numberAt s 3 2) version)) (ltb greatestCurveCount (curveCount s)) total _
-    (λ e. let few = ltb-false greatestCurveCount (curveCount s) e in simp (ne-eqb (length s) (fileLength (curveCount s)) (λ same. omega arith))))
+    (else-total (differs s 0 || differs s 1 || differs s 2) (not (eqb (numberAt s 3 2) version)) (ltb greatestCurveCount (curveCount s)) _ _
+    (λ e. let few = ltb-false greatestCurveCount (curveCount s) e in ap not (ne-eqb (length s) (fileLength (curveCount s)) (λ same. omega arith))))
 
 module _ (s : List ℕ) (l : enoughBytes ≤ length s) where
   read-verdict-front : readVerdict (take enoughBytes s) ≡ readVerdict s
   unfolding overlongFault numberAt
   read-verdict-front =
-      let size : length (take enoughBytes s) ≡ enoughBytes = length-take-le enoughBytes s l in
       let same : (k : ℕ) → k < enoughBytes → byteAt (take enoughBytes s) k ≡ byteAt s k = λ k m. getD-take enoughBytes s k 0 m in
-      overlong (take enoughBytes s) (omega arith)
+      overlong (take enoughBytes s) (omega (arith, length-take-le enoughBytes s l))
       ∙ rw (same 0 (omega arith), same 1 (omega arith), same 2 (omega arith), same 3 (omega arith), same 4 (omega arith), same 15 (omega arith))
       (sym (overlong s l))
 

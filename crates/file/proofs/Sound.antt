@@ -37,8 +37,7 @@ accepted-header s e =
     let many = fault-accepted (ltb greatestCurveCount (curveCount s)) curveCountRefused _ (versions .1) in
     let longer = fault-accepted (not (eqb (length s) (fileLength (curveCount s)))) totalRefused _ (many .1) in
     let third = or-no (differs s 0 || differs s 1) (differs s 2) (spelled .0) in
-    let first = or-no (differs s 0) (differs s 1) (third .0) in
-    search (no-difference, nltb→le)
+    search (or-no (differs s 0) (differs s 1) (third .0), no-difference, nltb→le)
 
 -- ---- the file: its header, and the road in it
 pub record SoundFile (s : List ℕ) : Type 0 where

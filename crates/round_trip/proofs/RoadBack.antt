@@ -66,12 +66,11 @@ module _ (r : Road) (holds : r .count ≤ length (r .curves)) (ok : roadVerdict 
   curve-back : (i : ℕ) → i < r .count → curveAt (fileBytes r) i ≡ getD (curvesOf r) i noCurve
   unfolding curveAt curveBytes numberAt
   curve-back i h =
-      let road = accepted-road r ok in
       let same = getD-take (r .count) (r .curves) i noCurve h in
       let c = getD (r .curves) i noCurve in
       let sound = accepted-curve-at r ok holds i noCurve h in
       let g = grade-fits (c .«grade_out») (sound .1 .grade-low) (sound .1 .grade-high) in
-      let pvi = record-number r i 0 2 (c .pvi) (fileLength i) (omega arith) h (omega arith) (omega (arith, road .length-high)) refl in
+      let pvi = record-number r i 0 2 (c .pvi) (fileLength i) (omega arith) h (omega arith) (omega (arith, accepted-road r ok .length-high)) refl in
       let size = record-number r i 2 2 (c .length) (fileLength i + 2) refl h (omega arith) (omega arith) refl in
       let grade = record-number r i 4 2 (ofZ w16 (c .«grade_out»)) (fileLength i + 4) refl h (omega arith) (bits-below g) refl in
       rw (pvi, size, grade, plain g, same)
@@ -80,8 +79,7 @@ module _ (r : Road) (holds : r .count ≤ length (r .curves)) (ok : roadVerdict 
   unfolding cleared
   cleared-same =
       let used = length-take-le (r .count) (r .curves) holds in
-      let places = length-replicate greatestCurveCount noCurve in
-      let curves = rw used at (take-filled noCurve (curvesOf r) (replicate greatestCurveCount noCurve) (omega (arith, accepted-road r ok .count))) in
+      let curves = rw used at (take-filled noCurve (curvesOf r) (replicate greatestCurveCount noCurve) (omega (arith, length-replicate greatestCurveCount noCurve, accepted-road r ok .count))) in
       search
 
   -- the tests of a road see only its numbers and its first n curves

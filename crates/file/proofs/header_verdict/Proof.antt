@@ -17,14 +17,13 @@ use Rattle.file.proofs.header_verdict.Tie as tie
 
 -- past the test of the version, those of the number of curves and of the total length decide
 past-version : (c : tie.Else3) →
-    let s = now (c .before .before .before .before .before .before .before .before .args .file) in
+    let long = c .before .before .before .before .before .before in
+    let s = now (long .before .before .args .file) in
     headerVerdict s ≡ fault (ltb greatestCurveCount (curveCount s)) curveCountRefused
     (fault (not (eqb (length s) (fileLength (curveCount s)))) totalRefused Accepted)
 unfolding headerVerdict
 past-version c =
-    let letters = c .before .before in
-    let version = sym (c .before .number-at .ensures .0) ∙ c .if3 .left in
-    simp (le-ltb _ _ (letters .before .before .before .before .if1 .left), letters .if2 .left, eq-eqb _ _ version)
+    simp (le-ltb _ _ (c .before .before .before .before .before .before .if1 .left), c .before .before .if2 .left, eq-eqb _ _ (sym (c .before .number-at .ensures .0) ∙ c .if3 .left))
 
 returns : tie.Need-returns
 unfolding headerVerdict
@@ -49,9 +48,8 @@ number-at-requires c κs = search needs
 returns-3 : tie.Need-returns-3
 unfolding headerVerdict
 returns-3 c =
-    let letters = c .before .before in
     let version = rw (c .before .number-at .ensures .0) at (c .if3 .taken) in
-    simp (le-ltb _ _ (letters .before .before .before .before .if1 .left), letters .if2 .left, ne-eqb _ _ version)
+    simp (le-ltb _ _ (c .before .before .before .before .before .before .if1 .left), c .before .before .if2 .left, ne-eqb _ _ version)
 
 shared-slice-read-count : tie.Need-shared-slice-read-count
 shared-slice-read-count c = search needs
@@ -64,15 +62,13 @@ file-length-requires c κs = search needs
 
 returns-5 : tie.Need-returns-5
 returns-5 c =
-    let count = c .before .before in
     let total = rw (c .before .file-length .ensures) at (c .if5 .taken) in
-    sym (past-version (count .before .before) ∙ simp (le-ltb _ _ (count .if4 .left), ne-eqb _ _ total))
+    sym (past-version (c .before .before .before .before) ∙ simp (le-ltb _ _ (c .before .before .if4 .left), ne-eqb _ _ total))
 
 returns-6 : tie.Need-returns-6
 returns-6 c =
-    let count = c .before .before in
-    let total = c .if5 .left ∙ c .before .file-length .ensures in
-    sym (past-version (count .before .before) ∙ simp (le-ltb _ _ (count .if4 .left), eq-eqb _ _ total))
+    let total = eq-eqb _ _ (c .if5 .left ∙ c .before .file-length .ensures) in
+    sym (past-version (c .before .before .before .before) ∙ simp (le-ltb _ _ (c .before .before .if4 .left), total))
 
 pub header-verdict-spec : {M : Type 1} → statement M
 header-verdict-spec =
