@@ -29,9 +29,13 @@ letters = 86 ∷ 67 ∷ 80 ∷ []
 abbrev pub version : ℕ
 version = 1
 
--- the length of a file with n curves: 16 bytes of the header and 6 for each record
+-- the bytes of a record
+abbrev pub recordLength : ℕ
+recordLength = 6
+
+-- the length of a file with n curves: 16 bytes of the header, and the records
 abbrev pub fileLength : ℕ → ℕ
-fileLength n = 16 + 6 * n
+fileLength n = 16 + recordLength * n
 
 -- the number of curves that a file names
 abbrev pub curveCount : List ℕ → ℕ

@@ -3,19 +3,12 @@
 use Prim.Native.Nat.{ℕ}
 use mathlib.Core.List.{List}
 use lib.IntN.{ℤ}
-use Rattle.terms.specs.Answers.{unless}
+use Rattle.terms.specs.Answers.{unless, keptUnless}
 use Rattle.terms.specs.declared.Answer.{Answer}
-use Rattle.terms.specs.declared.Verdict.{Verdict}
-use Rattle.terms.specs.declared.Verdict.the-variants.{Accepted, Fault}
 use Rattle.heights.specs.Heights.{heightsAnswer, heightsList}
 use Rattle.file.specs.File.{roadIn}
 use Rattle.file.specs.Reading.{readVerdict}
 use Rattle.writing.specs.Writing.{writeAnswer, writeList}
-
--- the list as it was where there is a fault, else as the rest says
-abbrev pub keptUnless : {A : Type 0} → Verdict → List A → List A → List A
-keptUnless Accepted rest list = rest
-keptUnless (Fault k) rest list = list
 
 -- a file read and its road written again
 unfoldable pub rewriteAnswer : List ℕ → List ℕ → Answer

@@ -48,6 +48,11 @@ abbrev pub unless : Verdict → Answer → Answer
 unless Accepted rest = rest
 unless (Fault k) rest = Refused k
 
+-- the same of a lent list: as it was where there is a fault; else as the rest says
+abbrev pub keptUnless : {A : Type 0} → Verdict → List A → List A → List A
+keptUnless Accepted rest list = rest
+keptUnless (Fault k) rest list = list
+
 -- refused 14 where a lent list has fewer than n places; else n, the number of places that are written
 abbrev pub roomFor : {A : Type 0} → ℕ → List A → Answer
 roomFor n list = refuse (ltb (length list) n) roomRefused (Number n)

@@ -6,7 +6,7 @@ ghost use mir.Syntax.{w16, w32};
 ghost use mir.Val.{ofZ};
 ghost use Rattle.whole.specs.Placed.{Wrote};
 ghost use Rattle.terms.specs.Limits.{greatestCurveCount};
-ghost use Rattle.file.specs.File.{fileLength};
+ghost use Rattle.file.specs.File.{recordLength, fileLength};
 ghost use Rattle.writing.specs.Bytes.{bytesOf, frontBytes, headerBytes, curveBytes, fileBytes};
 ghost use Rattle.writing.specs.Writing.{writeAnswer, writeList};
 use road::Curve;
@@ -75,7 +75,7 @@ fn put_header(road: Road, buffer: &mut [u8]) -> usize
 
 // Stores the record of a curve from place `at` on.
 fn put_curve(curve: Curve, buffer: &mut [u8], at: usize) -> usize
-    requires { ⌜ at + 6 ≤ length (now buffer) ⌝ }
+    requires { ⌜ at + recordLength ≤ length (now buffer) ⌝ }
     ensures { λ r. ⌜ Wrote (curveBytes curve) at r (now (buffer .entry)) (now (buffer .exit)) ⌝ }
 {
     let length = put_number(curve.pvi, 2, buffer, at);
