@@ -11,7 +11,7 @@ use Rattle.whole.proofs.Fill.{filled-at}
 use Rattle.whole.proofs.Twos.{bits-back}
 use Rattle.terms.specs.Limits.{greatestCurveCount}
 use Rattle.road.specs.Road.{noCurve}
-use Rattle.file.specs.File.{byteAt, numberAt, fileLength, curveCount, curveAt, roadIn}
+use Rattle.file.specs.File.{byteAt, numberAt, recordLength, fileLength, curveCount, curveAt, roadIn}
 use Rattle.file.proofs.Sound.{SoundHeader}
 use Rattle.writing.specs.Bytes.{bytesOf, headerBytes, curveBytes, fileUpTo, fileBytes}
 use Rattle.round_trip.specs.RoundTrip.{Bytes}
@@ -41,7 +41,7 @@ module _ (s : List ℕ) (bytes : Bytes s) (f : SoundHeader s) where
   behind : (at j w : ℕ) → at + j + w ≤ length s → bytesOf w (numberAt s (at + j) w) ≡ take w (drop j (drop at s))
   behind at j w h = rw drop-drop (bytes-back s bytes (at + j) w h)
 
-  curve-back : (i : ℕ) → i < curveCount s → curveBytes (curveAt s i) ≡ take 6 (drop (fileLength i) s)
+  curve-back : (i : ℕ) → i < curveCount s → curveBytes (curveAt s i) ≡ take recordLength (drop (fileLength i) s)
   unfolding curveBytes curveAt
   curve-back i h =
       let at = fileLength i in
@@ -59,8 +59,8 @@ module _ (s : List ℕ) (bytes : Bytes s) (f : SoundHeader s) where
   unfolding fileUpTo
   front-back zero h = header-back
   front-back (suc n) h =
-      let e : fileLength (suc n) ≡ fileLength n + 6 = omega arith in
-      rw (e, curve-in n (omega arith)) (take-then s (fileLength n) 6 (front-back n (omega arith)) (curve-back n (omega arith)))
+      let e : fileLength (suc n) ≡ fileLength n + recordLength = omega arith in
+      rw (e, curve-in n (omega arith)) (take-then s (fileLength n) recordLength (front-back n (omega arith)) (curve-back n (omega arith)))
 
   pub file-back : fileBytes (roadIn s) ≡ s
   unfolding roadIn

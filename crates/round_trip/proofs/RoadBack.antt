@@ -20,7 +20,7 @@ use Rattle.terms.specs.declared.Verdict.the-variants.{Accepted}
 use Rattle.road.specs.declared.Road.{Road}
 use Rattle.road.specs.Road.{noCurve, curvesOf, roadVerdict}
 use Rattle.road.proofs.Accepted.{accepted-road, accepted-curve-at}
-use Rattle.file.specs.File.{byteAt, numberAt, fileLength, curveCount, letters, version, curveAt, roadIn}
+use Rattle.file.specs.File.{byteAt, numberAt, recordLength, fileLength, curveCount, letters, version, curveAt, roadIn}
 use Rattle.file.proofs.Sound.{SoundFile}
 use Rattle.writing.specs.Bytes.{bytesOf, headerBytes, curveBytes, fileUpTo, fileBytes}
 use Rattle.writing.proofs.Bytes.{front-length}
@@ -48,7 +48,7 @@ module _ (r : Road) where
   header-byte : (k n : ℕ) → k < 16 → n < 256 → numberAt (headerBytes r) k 1 ≡ numberAt (bytesOf 1 n) 0 1 → byteAt (fileBytes r) k ≡ n
   header-byte k n l h e = sym (number-one (fileBytes r) k) ∙ header-number k 1 n (omega arith) h e
 
-  record-number : (i j w n k : ℕ) → k ≡ fileLength i + j → i < r .count → j + w ≤ 6 → n < 256 ^ w →
+  record-number : (i j w n k : ℕ) → k ≡ fileLength i + j → i < r .count → j + w ≤ recordLength → n < 256 ^ w →
       numberAt (curveBytes (getD (r .curves) i noCurve)) j w ≡ numberAt (bytesOf w n) 0 w → numberAt (fileBytes r) k w ≡ n
   unfolding fileUpTo
   record-number i j w n k p u l h e =
