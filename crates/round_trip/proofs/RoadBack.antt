@@ -18,7 +18,7 @@ use Rattle.whole.proofs.Twos.{bits-below}
 use Rattle.terms.specs.Limits.{greatestCurveCount, greatestGrade, lowestStart, highestStart}
 use Rattle.terms.specs.declared.Verdict.the-variants.{Accepted}
 use Rattle.road.specs.declared.Road.{Road}
-use Rattle.road.specs.Road.{noCurve, curvesOf, roadVerdict}
+use Rattle.road.specs.Road.{noCurve, curvesOf, numbersVerdict, roadVerdict}
 use Rattle.road.proofs.Accepted.{accepted-road, accepted-curve-at}
 use Rattle.file.specs.File.{byteAt, numberAt, recordLength, fileLength, curveCount, letters, version, curveAt, roadIn}
 use Rattle.file.proofs.Sound.{SoundFile}
@@ -84,7 +84,7 @@ module _ (r : Road) (holds : r .count ≤ length (r .curves)) (ok : roadVerdict 
 
   -- the tests of a road see only its numbers and its first n curves
   same-verdict : roadVerdict (cleared r) ≡ roadVerdict r
-  unfolding roadVerdict
+  unfolding roadVerdict numbersVerdict
   same-verdict = let m = cleared-same in rw (m .curves, m .speed, m .purpose, m .length, m .start, m .grade, m .count)
 
   count-back : curveCount (fileBytes r) ≡ r .count
