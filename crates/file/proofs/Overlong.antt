@@ -14,8 +14,7 @@ use Rattle.terms.specs.Limits.{greatestCurveCount}
 use Rattle.terms.specs.Refusals.{lettersRefused, versionRefused, curveCountRefused, totalRefused}
 use Rattle.terms.specs.declared.Verdict.{Verdict}
 use Rattle.terms.specs.declared.Verdict.the-variants.{Accepted, Fault}
-use Rattle.road.specs.Road.{roadVerdict}
-use Rattle.file.specs.File.{byteAt, numberAt, fileLength, curveCount, version, roadIn}
+use Rattle.file.specs.File.{byteAt, numberAt, fileLength, curveCount, version}
 use Rattle.file.specs.Reading.{differs, headerVerdict, readVerdict, enoughBytes, EnoughToRead}
 use Rattle.file.proofs.Sound.{read-by}
 
