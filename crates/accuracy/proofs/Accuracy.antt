@@ -50,6 +50,6 @@ accuracy r list sights i e o far ok size room on e-low e-high o-low o-high far-l
       profile = profile-number own i e o far (omega arith) (omega arith) look sights (omega arith) ∙ ap Number stations;
       in-profile = profile-at own i e o far (omega arith) (omega arith) look sights (omega arith);
       available = refl;
-      at-least = exact-le-sight (exactHeight r) own (r .length) stations floors i e o far e-low o-low;
-      at-most = sight-le-exact (exactHeight r) own (r .length) stations floors i e o far;
+      at-least = exact-le-sight (exactHeight r) own (r .length) (omega arith) floors i e o far e-low o-low;
+      at-most = sight-le-exact (exactHeight r) own (r .length) (omega arith) floors i e o far;
     }

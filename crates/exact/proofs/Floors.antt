@@ -4,7 +4,6 @@ use mathlib.Core.Path.{_≡_}
 use mathlib.Core.List.{List}
 use Prim.Native.Nat.{ℕ, _+_, _-_, _≤_, _<_}
 use native.Mathlib.Omega.{arith}
-use lib.Dec.{T}
 use lib.IntN.{ℤ}
 use lib.ListN.{length}
 use Rattle.whole.specs.Fractions.{Frac}
@@ -15,41 +14,27 @@ use Rattle.sight.proofs.Seen.{between-at, between-by}
 use Rattle.exact.specs.ExactSight.{clearsExactly, seenExactly, exactSightOver}
 use Rattle.exact.proofs.Fractions.{exact-then-stored, stored-then-exact}
 
-module _ (H : ℕ → Frac) (list : List ℤ) (last : ℕ) (size : length list ≡ last + 1)
+module _ (H : ℕ → Frac) (list : List ℤ) (last : ℕ) (size : length list - 1 ≡ last)
     (floors : (k : ℕ) → k ≤ last → Floor (H k) (heightAt list k)) (i : ℕ) where
-  module _ (e o j k : ℕ) (on : j ≤ last) (l : i < k) (m : k < j) where
-    split : j - i ≡ (j - k) + (k - i)
-    split = omega arith
-
-    clears-of-exact : T (clearsExactly H e o i j k) → T (clears (heightAt list) (e + 1) (o + 1) i j k)
-    unfolding clears clearsExactly
-    clears-of-exact t =
-        rw split
-        (exact-then-stored (floors i (omega arith)) (floors j on) (floors k (omega arith)) (j - k) (k - i) e o
-        record { products = record { le = rw split at t } } .le)
-
-    exact-of-clears : T (clears (heightAt list) e o i j k) → T (clearsExactly H (e + 1) (o + 1) i j k)
-    unfolding clears clearsExactly
-    exact-of-clears t =
-        rw split
-        (stored-then-exact (floors i (omega arith)) (floors j on) (floors k (omega arith)) (j - k) (k - i) e o
-        record { le = rw split at t } .products .le)
-
-  end : length list - 1 ≡ last
-  end = omega arith
+  split : {j k : ℕ} → i < k → k < j → j - i ≡ (j - k) + (k - i)
+  split l m = omega arith
 
   exact-le-higher : (e o far : ℕ) → exactSightOver H last i e o far ≤ availableSight list i (e + 1) (o + 1) far
-  unfolding exactSightOver seenExactly availableSight seen
+  unfolding exactSightOver seenExactly clearsExactly availableSight seen clears
   exact-le-higher e o far =
-      rw end (sight-mono i last far _ _
-      (λ j l on t. between-by i j _ (λ k l m. clears-of-exact e o j k on l m (between-at i j _ t k l m))))
+      rw size (sight-mono i last far _ _ (λ j l on t. between-by i j _ (λ k l m.
+      rw (split l m)
+      (exact-then-stored (floors i (omega arith)) (floors j on) (floors k (omega arith)) (j - k) (k - i) e o
+      record { products = record { le = rw (split l m) at (between-at i j _ t k l m) } } .le))))
 
   -- the sight over the floors is at most the exact one with eye and object 1 higher,
   pub sight-le-exact : (e o far : ℕ) → availableSight list i e o far ≤ exactSightOver H last i (e + 1) (o + 1) far
-  unfolding exactSightOver seenExactly availableSight seen
+  unfolding exactSightOver seenExactly clearsExactly availableSight seen clears
   sight-le-exact e o far =
-      rw end (sight-mono i last far _ _
-      (λ j l on t. between-by i j _ (λ k l m. exact-of-clears e o j k on l m (between-at i j _ t k l m))))
+      rw size (sight-mono i last far _ _ (λ j l on t. between-by i j _ (λ k l m.
+      rw (split l m)
+      (stored-then-exact (floors i (omega arith)) (floors j on) (floors k (omega arith)) (j - k) (k - i) e o
+      record { le = rw (split l m) at (between-at i j _ t k l m) } .products .le))))
 
   -- and at least the exact one with them 1 lower
   pub exact-le-sight : (e o far : ℕ) → 1 ≤ e → 1 ≤ o → exactSightOver H last i (e - 1) (o - 1) far ≤ availableSight list i e o far
