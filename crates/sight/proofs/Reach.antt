@@ -43,9 +43,6 @@ reach-is p (suc n) = go (p 1) refl (reach-is (λ t. p (suc t)) n)
         each (suc (suc t)) l m = a .all (suc t) (omega arith) (omega arith)
     go false e a = record { within = omega arith; all = λ t l m. absurd (omega arith); stop = λ l x. subst T e x }
 
-pub reach-le : (p : ℕ → Bool) (limit : ℕ) → reach p limit ≤ limit
-reach-le p limit = reach-is p limit .within
-
 -- up to a nearer limit it is the lesser of that and what it was
 pub reach-min : (p : ℕ → Bool) (a n : ℕ) → reach p (min a n) ≡ min a (reach p n)
 reach-min p a n = available-unique (reach-is p (min a n)) nearer
@@ -72,7 +69,7 @@ sight-mono i last far p q f =
 module _ (list : List ℤ) (i e o : ℕ) where
   pub sight-le-far : (far : ℕ) → availableSight list i e o far ≤ far
   unfolding availableSight sightFrom
-  sight-le-far far = omega (arith, reach-le (λ t. seen (heightAt list) e o i (i + t)) (min far (length list - 1 - i)))
+  sight-le-far far = omega (arith, reach-is (λ t. seen (heightAt list) e o i (i + t)) (min far (length list - 1 - i)) .within)
 
   -- sight up to a nearer distance is the lesser of that and the sight up to a farther one
   pub sight-min : (a b : ℕ) → a ≤ b → availableSight list i e o a ≡ min a (availableSight list i e o b)

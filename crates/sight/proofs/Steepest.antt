@@ -1,16 +1,18 @@
 -- The steepest line so far from an eye at station i: it alone decides whether the next station is seen.
 -- A line goes from the eye to a point t metres ahead. Its slope is its rise over t, and slopes are compared by products.
 use mathlib.Core.Path.{_≡_}
+use mathlib.Core.List.{List}
 use mathlib.Core.Logic.{⊎-elim}
-use Prim.Native.Nat.{ℕ, suc, _+_, _-_, _≤_, _<_}
-use native.Mathlib.Nat.{eq-or-lt-of-le, le-refl}
+use Prim.Native.Nat.{ℕ, zero, suc, _+_, _-_, _≤_, _<_, min}
+use native.Mathlib.Nat.{eq-or-lt-of-le}
 use native.Mathlib.Omega.{arith}
 use lib.Dec.{T}
 use lib.IntN.{ℤ, pos, _+ℤ_, _-ℤ_, _*ℤ_}
+use lib.ListN.{length}
 use lib.Signed.{_≤ℤ_, _<ℤ_, ≤ℤ-refl, clashℤ}
-use Rattle.whole.proofs.Int.{var, le-by, le-to, reps}
+use Rattle.whole.proofs.Int.{var, le-by, eq-by, le-to, lt-to, reps}
 use Rattle.whole.proofs.Ring.{≤ℤ-trans, ≤ℤ-of-<, *ℤ-mono, *ℤ-cancel, ring}
-use Rattle.sight.specs.Sight.{seen, reach}
+use Rattle.sight.specs.Sight.{heightAt, seen, sightFrom, availableSight}
 use Rattle.sight.proofs.Reach.{available-unique, reach-is}
 use Rattle.sight.proofs.Seen.{Seen, seen-to, seen-by}
 
@@ -56,6 +58,12 @@ module _ (x y z o : ℤ) (a b n : ℕ) (e : n ≡ a + b) where
 abbrev pub rise : (ℕ → ℤ) → ℕ → ℕ → ℕ → ℤ
 rise h e i t = h (i + t) -ℤ (h i +ℤ pos e)
 
+-- the road under the eye
+pub rise-under : (h : ℕ → ℤ) (e i : ℕ) → pos 0 -ℤ pos e ≡ rise h e i 0
+rise-under h e i =
+    let q : i + 0 ≡ i = omega arith in let v = var (h i) in
+    rw q (eq-by (search reps) (search reps) (omega arith))
+
 -- an object is seen where no line to a station before it is steeper than the line to it
 module _ (h : ℕ → ℤ) (e o i n : ℕ) where
   pub seen-by-slopes : ((t : ℕ) → 0 < t → t < n → NoSteeper (rise h e i t) t (rise h e i n +ℤ pos o) n) → Seen h e o i (i + n)
@@ -70,99 +78,89 @@ module _ (h : ℕ → ℤ) (e o i n : ℕ) where
       slope-by-clears (h i +ℤ pos e) (h (i + n)) (h (i + t)) (pos o) (i + n - (i + t)) t n (omega arith)
       (rw (p, q) at (g (i + t) (omega arith) (omega arith)))
 
--- ---- the steepest line
--- of the stations less than `next` metres ahead none lies above the line to the road `run` metres ahead
-pub record Steepest (h : ℕ → ℤ) (e i run next : ℕ) : Type 0 where
-  pub ahead : 0 < run
-  pub before : run < next
-  pub each : (t : ℕ) → 0 < t → t < next → NoSteeper (rise h e i t) t (rise h e i run) run
-
-module _ {h : ℕ → ℤ} {e i : ℕ} where
-  pub steepest-one : Steepest h e i 1 2
-  steepest-one = record {
-    ahead = omega arith;
-    before = omega arith;
-    each = λ t l r. let q : t ≡ 1 = omega arith in rw q (≤ℤ-refl _);
-  }
-
-  module _ {run next : ℕ} (st : Steepest h e i run next) where
-    -- where the next station is as steep, the line to it is the steepest
-    pub steepest-next : NoSteeper (rise h e i run) run (rise h e i next) next → Steepest h e i next (next + 1)
-    steepest-next f = record {
-      ahead = omega (arith, st .before);
-      before = omega arith;
-      each = λ t l r.
-          ⊎-elim
-          (λ q. rw q (≤ℤ-refl _))
-          (λ q. slope-trans (rise h e i t) (rise h e i next) (rise h e i run) t run next (st .ahead) (st .each t l q) f)
-          (eq-or-lt-of-le {n = t} {m = next} (omega arith));
-    }
-
-    -- where it is not, the line stays
-    pub steepest-stays : NoSteeper (rise h e i next) next (rise h e i run) run → Steepest h e i run (next + 1)
-    steepest-stays f = record {
-      ahead = st .ahead;
-      before = omega (arith, st .before);
-      each = λ t l r. ⊎-elim (λ q. rw q f) (λ q. st .each t l q) (eq-or-lt-of-le {n = t} {m = next} (omega arith));
-    }
+-- straight down, to the road under the eye, no line is flatter
+flatter-ahead : (h : ℕ → ℤ) (e i : ℕ) (x : ℤ) (run n : ℕ) → Flatter x n (rise h e i run) run → 0 < run
+flatter-ahead h e i x zero n f =
+    let q : i + 0 ≡ i = omega arith in let v = var (h i) in let vx = var x in
+    omega (arith, lt-to (rw q at f) (search reps) (search reps))
+flatter-ahead h e i x (suc run) n f = omega arith
 
 -- ---- a search that comes to the station `next` metres ahead
--- all before it are seen, and the steepest line to them is known
+-- all stations before it are seen, and none of them lies above the line to the road `run` metres ahead; before the first station the
+-- line goes straight down
 pub record Passed (h : ℕ → ℤ) (e o i run next : ℕ) : Type 0 where
-  pub steepest : Steepest h e i run next
+  pub ahead : 1 < next → 0 < run
+  pub before : run < next
+  pub steepest : (t : ℕ) → 0 < t → t < next → NoSteeper (rise h e i t) t (rise h e i run) run
   pub seen-all : (t : ℕ) → 0 < t → t < next → T (seen h e o i (i + t))
 
+-- what holds before n and of n
+one-more : {P : ℕ → Type 0} {n : ℕ} → ((t : ℕ) → 0 < t → t < n → P t) → P n → (t : ℕ) → 0 < t → t < n + 1 → P t
+one-more {n} f p t l r = ⊎-elim (λ q. rw q p) (f t l) (eq-or-lt-of-le {n = t} {m = n} (omega arith))
+
 module _ {h : ℕ → ℤ} {e o i : ℕ} where
-  pub passed-one : Passed h e o i 1 2
-  passed-one = record {
-    steepest = steepest-one;
-    seen-all = λ t l r. seen-by h e o i (i + t) (λ k p q. absurd (omega arith));
+  pub passed-none : Passed h e o i 0 1
+  passed-none = record {
+    ahead = λ l. omega arith;
+    before = omega arith;
+    steepest = λ t l r. absurd (omega arith);
+    seen-all = λ t l r. absurd (omega arith);
   }
 
   module _ {run next : ℕ} (w : Passed h e o i run next) where
+    -- no line to a station before is steeper than what is as steep as the steepest
+    none-steeper : (x : ℤ) → NoSteeper (rise h e i run) run x next → (t : ℕ) → 0 < t → t < next → NoSteeper (rise h e i t) t x next
+    none-steeper x f t l r =
+        slope-trans (rise h e i t) x (rise h e i run) t run next (w .ahead (omega arith)) (w .steepest t l r) f
+
     -- an object on the steepest line or above it is seen
     seen-above : NoSteeper (rise h e i run) run (rise h e i next +ℤ pos o) next →
         (t : ℕ) → 0 < t → t < next + 1 → T (seen h e o i (i + t))
-    seen-above f t l r =
-        let st = w .steepest in let object = rise h e i next +ℤ pos o in
-        ⊎-elim
-        (λ q. rw q (seen-by h e o i (i + next) (seen-by-slopes h e o i next
-        (λ u m v. slope-trans (rise h e i u) object (rise h e i run) u run next (st .ahead) (st .each u m v) f))))
-        (λ q. w .seen-all t l q)
-        (eq-or-lt-of-le {n = t} {m = next} (omega arith))
+    seen-above f =
+        one-more (w .seen-all) (seen-by h e o i (i + next) (seen-by-slopes h e o i next (none-steeper (rise h e i next +ℤ pos o) f)))
 
-    -- the next station's road is on the line or above it
+    -- the next station's road is on the line or above it: the line to it is the steepest
     pub passed-steep : NoSteeper (rise h e i run) run (rise h e i next) next → Passed h e o i next (next + 1)
     passed-steep f = record {
-      steepest = steepest-next (w .steepest) f;
+      ahead = λ l. omega (arith, w .before);
+      before = omega arith;
+      steepest = one-more (none-steeper (rise h e i next) f) (≤ℤ-refl _);
       seen-all = seen-above (slope-raise (rise h e i run) (rise h e i next) o run next f);
     }
 
-    -- its road is below the line and the object on it is not
+    -- its road is below the line and the object on it is not: the line stays
     pub passed-seen : Flatter (rise h e i next) next (rise h e i run) run →
         NoSteeper (rise h e i run) run (rise h e i next +ℤ pos o) next → Passed h e o i run (next + 1)
     passed-seen f g = record {
-      steepest = steepest-stays (w .steepest) (≤ℤ-of-< f);
+      ahead = λ l. flatter-ahead h e i (rise h e i next) run next f;
+      before = omega (arith, w .before);
+      steepest = one-more (w .steepest) (≤ℤ-of-< f);
       seen-all = seen-above g;
     }
 
-    -- the object on it is below the line: hidden by the station `run` metres ahead, so the search ends
-    pub passed-hidden : (limit : ℕ) → next ≤ limit → Flatter (rise h e i next +ℤ pos o) next (rise h e i run) run →
-        next - 1 ≡ reach (λ t. seen h e o i (i + t)) limit
-    passed-hidden limit l f =
-        let st = w .steepest in let q : suc (next - 1) ≡ next = omega (arith, st .before) in
-        available-unique record {
-          within = omega arith;
-          all = λ t m r. w .seen-all t m (omega (arith, st .before));
-          stop = λ m p.
-              clashℤ f (slopes-by-seen h e o i next (seen-to h e o i (i + next) (rw q at p)) run (st .ahead) (st .before));
-        } (reach-is _ limit)
+-- ---- its end, over a list
+module _ (list : List ℤ) {e o i run next : ℕ} (far : ℕ) (w : Passed (heightAt list) e o i run next) where
+  -- the object on the next station is below the line: hidden by the station `run` metres ahead
+  pub passed-hidden : next ≤ min far (length list - 1 - i) →
+      Flatter (rise (heightAt list) e i next +ℤ pos o) next (rise (heightAt list) e i run) run →
+      next - 1 ≡ availableSight list i e o far
+  unfolding availableSight sightFrom
+  passed-hidden l f =
+      let h = heightAt list in
+      let q : suc (next - 1) ≡ next = omega (arith, w .before) in
+      let ahead = flatter-ahead h e i (rise h e i next +ℤ pos o) run next f in
+      available-unique record {
+        within = omega arith;
+        all = λ t m r. w .seen-all t m (omega (arith, w .before));
+        stop = λ m p. clashℤ f (slopes-by-seen h e o i next (seen-to h e o i (i + next) (rw q at p)) run ahead (w .before));
+      } (reach-is _ _)
 
-    -- it ends at the limit
-    pub passed-all : (limit : ℕ) → next ≡ limit + 1 → limit ≡ reach (λ t. seen h e o i (i + t)) limit
-    passed-all limit q =
-        available-unique record {
-          within = le-refl limit;
-          all = λ t l r. w .seen-all t l (omega arith);
-          stop = λ m p. omega arith;
-        } (reach-is _ limit)
+  -- all up to the limit are seen
+  pub passed-all : next ≡ min far (length list - 1 - i) + 1 → next - 1 ≡ availableSight list i e o far
+  unfolding availableSight sightFrom
+  passed-all q =
+      available-unique record {
+        within = omega arith;
+        all = λ t l r. w .seen-all t l (omega arith);
+        stop = λ m p. omega arith;
+      } (reach-is _ _)

@@ -1,79 +1,333 @@
--- `fill_sights` meets its contract. The invariant: the first `i` places are filled, the list is as long as it was. A sight is at
--- most 8,000, so it fits its place. The measure is the number of stations left.
-use mathlib.Core.Path.{_≡_, refl}
-use Prim.Native.Nat.{_-_, _≤_}
-use borrow.Author.Needs.{needs}
+-- `fill_sights` meets its contract. The invariant of the search: the stations less than `next` metres ahead are all seen, none of
+-- them lies above the line to the road at `i + run`, and `rise` is how far that lies above the eye. The comparisons of the code are
+-- those of the laws in proofs/Steepest.antt, as every height fits 32 bits and every distance is at most 8,000. The invariant of the
+-- walk: the first `k` places are filled. The measures are what is left to the end.
+use mathlib.Core.Path.{_≡_, refl, _∙_}
+use mathlib.Core.Bool.{true}
+use mathlib.Core.List.{List}
+use mathlib.Core.Logic.{⊎-elim}
+use Prim.Native.Nat.{ℕ, _+_, _-_, _≤_, _<_, _^_, min}
 use native.Mathlib.Omega.{arith}
+use borrow.Author.Needs.{needs, sfits-of}
+use lib.IntN.{ℤ, pos, _-ℤ_}
 use lib.ListN.{length}
+use mir.Syntax.{w32, w64}
+use mir.Val.{SFits, toZ}
 use Rattle.whole.specs.Fill.{filled}
-use Rattle.whole.proofs.Fill.{filled-next}
-use Rattle.sight.specs.Sight.{availableSight}
+use Rattle.whole.proofs.Fill.{filled-none, filled-next, filled-to}
+use Rattle.whole.proofs.Range.{Reads, fitB, natB, addB, negB, asB, countB, countR, fits-by, same-by, sizes, reads}
+use Rattle.whole.proofs.Machine.{le-yes, le-no, lt-yes, lt-no}
+use Rattle.terms.specs.Limits.{greatestFarthest}
+use Rattle.sight.specs.Sight.{heightAt, availableSight}
 use Rattle.sight.proofs.Reach.{sight-le-far}
+use Rattle.sight.proofs.Steepest.{rise, rise-under, Passed, passed-none, passed-steep, passed-seen, passed-hidden, passed-all}
 use Rattle.sight.proofs.fill_sights.Statement.{statement}
 use Rattle.sight.proofs.fill_sights.Tie as tie
 
+record Searched (list : List ℤ) (i e o end bits run next : ℕ) : Type 0 where
+  near : (end ≤ greatestFarthest + 1) × (i + end ≤ length list)
+  within : next ≤ end
+  fits : SFits w32 (heightAt list (i + run))
+  rises : toZ w64 bits ≡ rise (heightAt list) e i run
+  passed : Passed (heightAt list) e o i run next
+
+abbrev Inv-search : tie.InvT-search
+Inv-search heights first count e o far sights height object k i ahead end eye rise₀ run₀ next₀ rise run next =
+    Searched heights i e o end rise run next
+
+abbrev μ-search : tie.MeasureT-search
+μ-search heights first count e o far sights height object k i ahead end eye rise₀ run₀ next₀ rise run next = end - next
+
 abbrev Inv-loop : tie.InvT-loop
-Inv-loop heights e o far sights₀ i₀ i-end sights i =
-    (i ≤ i-end) × (length sights ≡ length sights₀) × (sights ≡ filled (λ k. availableSight heights k e o far) 0 i sights₀)
+Inv-loop heights first count e o far sights₀ height object k₀ sights k =
+    (k ≤ count) × (length sights ≡ length sights₀)
+    × (sights ≡ filled (λ t. availableSight heights (first + t) e o far) 0 k sights₀)
 
 abbrev μ-loop : tie.MeasureT-loop
-μ-loop heights e o far sights₀ i₀ i-end sights i = i-end - i
+μ-loop heights first count e o far sights₀ height object k₀ sights k = count - k
 
-loop-holds : tie.Need-loop-holds Inv-loop μ-loop
-unfolding filled
-loop-holds c = (omega arith, refl, refl)
+-- one station more, short of the end
+nearer : {next end : ℕ} → next ≤ end → (next ≡ end → ⊥) → (next + 1 ≤ end) × (end - (next + 1) < end - next)
+nearer l n = (omega (arith, n), omega (arith, n))
 
-available-requires : tie.Need-available-requires Inv-loop μ-loop
-available-requires c κs = search needs
+-- ---- what the code computes with: heights that fit 32 bits, and counts that are small
+record Known (list : List ℤ) (i e o bits run next : ℕ) : Type 0 where
+  here : SFits w32 (heightAt list i)
+  there : SFits w32 (heightAt list (i + next))
+  e-is : Reads (toZ w64 e) (pos e)
+  o-is : Reads (toZ w64 o) (pos o)
+  next-is : Reads (toZ w64 next) (pos next)
+  run-is : Reads (toZ w64 run) (pos run)
+  rise-is : Reads (toZ w64 bits) (rise (heightAt list) e i run)
 
-cast-sights : tie.Need-cast-sights Inv-loop μ-loop
+abbrev known : {list : List ℤ} {i e o end bits run next : ℕ} → Searched list i e o end bits run next → e ≤ 2 ^ 32 → o ≤ 2 ^ 32 →
+    SFits w32 (heightAt list i) → SFits w32 (heightAt list (i + next)) → Known list i e o bits run next
+known {list} {i} {e} {o} {end} {bits} {run} {next} v le lo here there = record {
+  here = here;
+  there = there;
+  e-is = countR w64 e (2 ^ 32) le;
+  o-is = countR w64 o (2 ^ 32) lo;
+  next-is = countR w64 next (greatestFarthest + 1) (omega (arith, v .near, v .within));
+  run-is = countR w64 run (greatestFarthest + 1) (omega (arith, v .near, v .within, v .passed .before));
+  rise-is = record {
+    size = asB (v .rises) (addB (fitB (v .fits)) (negB (addB (fitB here) (natB {k = e} (2 ^ 32) le))));
+    good = true;
+    same = λ t. v .rises;
+  };
+}
+
+-- at a station
+module _ (c : tie.After-eye Inv-search μ-search Inv-loop μ-loop) where
+  abbrev walk : tie.At-loop Inv-search μ-search Inv-loop μ-loop
+  walk = c .before .before .before
+
+  abbrev start : tie.Start Inv-search μ-search Inv-loop μ-loop
+  start = walk .before
+
+  abbrev at : ℕ
+  at = start .args .first + walk .loop .k
+
+  -- the end lies just behind the lesser of the farthest distance and the stations left
+  end-is : c .before .if1 .end ≡ min (start .args .far) (length (start .args .heights .now) - 1 - at) + 1
+  end-is = ⊎-elim (λ w. omega arith) (λ w. omega arith) (c .before .if1 .came)
+
+-- at the next station ahead
+module _ (c : tie.After-road Inv-search μ-search Inv-loop μ-loop) where
+  abbrev head : tie.At-search Inv-search μ-search Inv-loop μ-loop
+  head = c .before .before
+
+  abbrev outer : tie.After-eye Inv-search μ-search Inv-loop μ-loop
+  outer = head .before
+
+  abbrev at-next : let s = start outer .args in let l = head .search in
+      Known (s .heights .now) (at outer) (s .e) (s .o) (l .rise) (l .run) (l .next)
+  at-next = known (head .search .inv) (omega arith) (omega arith) (sfits-of (outer .eye .given)) (sfits-of (c .road .given))
+
+-- ---- the search yields the station's sight
+-- the available sight from the station
+abbrev sightAt : tie.After-eye Inv-search μ-search Inv-loop μ-loop → ℕ
+sightAt c = let s = start c .args in availableSight (s .heights .now) (at c) (s .e) (s .o) (s .far)
+
+-- it comes to its end,
+all-seen : (c : tie.Then2 Inv-search μ-search Inv-loop μ-loop) → c .before .search .next - 1 ≡ sightAt (c .before .before)
+all-seen c = let l = c .before .search .inv in passed-all _ _ (l .passed) (omega (arith, end-is (c .before .before)))
+
+-- or to a hidden station
+next-hidden : (c : tie.Then4 Inv-search μ-search Inv-loop μ-loop) →
+    let h = head (c .before .before) in h .search .next - 1 ≡ sightAt (h .before)
+next-hidden c =
+    let v = at-next (c .before .before) in let l = head (c .before .before) .search .inv in
+    passed-hidden _ _ (l .passed) (omega (arith, end-is (outer (c .before .before)))) (lt-yes (c .if4 .taken) (search reads depth 20) tt)
+
+sight-is : (c : tie.Joined2 Inv-search μ-search Inv-loop μ-loop) → c .if2 .sight ≡ sightAt (c .before .before)
+sight-is c =
+    ⊎-elim
+    (λ w. omega (arith, w .2, w .0 .taken, all-seen record { before = c .before; if2 = w .0 }))
+    (λ w.
+    w .4 ∙ next-hidden record {
+      before = record { before = record { before = record { before = c .before; if2 = w .0 }; road = w .1 }; if3 = w .2 };
+      if4 = w .3;
+    })
+    (c .if2 .came)
+
+cast-height : tie.Need-cast-height Inv-search μ-search Inv-loop μ-loop
+cast-height c = search needs
+
+cast-object : tie.Need-cast-object Inv-search μ-search Inv-loop μ-loop
+cast-object c = search needs
+
+loop-holds : tie.Need-loop-holds Inv-search μ-search Inv-loop μ-loop
+loop-holds c = (omega arith, refl, filled-none _ 0 _)
+
+add-i : tie.Need-add-i Inv-search μ-search Inv-loop μ-loop
+add-i c = record { fits = omega arith }
+
+sub-ahead : tie.Need-sub-ahead Inv-search μ-search Inv-loop μ-loop
+sub-ahead c = omega arith
+
+add-end : tie.Need-add-end Inv-search μ-search Inv-loop μ-loop
+add-end c = record { fits = omega arith }
+
+mul-eye : tie.Need-mul-eye Inv-search μ-search Inv-loop μ-loop
+mul-eye c = record { fits = omega arith }
+
+shared-slice-copy-out-eye : tie.Need-shared-slice-copy-out-eye Inv-search μ-search Inv-loop μ-loop
+shared-slice-copy-out-eye c = omega arith
+
+cast-eye : tie.Need-cast-eye Inv-search μ-search Inv-loop μ-loop
+cast-eye c = fits-by (search (sizes, sfits-of)) tt
+
+add-eye : tie.Need-add-eye Inv-search μ-search Inv-loop μ-loop
+add-eye c = let e = countB w64 (start c .args .e) (2 ^ 32) (omega arith) in fits-by (search (sizes, sfits-of) depth 16) tt
+
+sub-rise : tie.Need-sub-rise Inv-search μ-search Inv-loop μ-loop
+sub-rise c =
+    let none = countB w64 0 0 (omega arith) in let e = countB w64 (start c .args .e) (2 ^ 32) (omega arith) in
+    fits-by (search sizes depth 16) tt
+
+search-holds : tie.Need-search-holds Inv-search μ-search Inv-loop μ-loop
+search-holds c =
+    let s = start c .args in
+    let under : at c + 0 ≡ at c = omega arith in
+    let none = countR w64 0 0 (omega arith) in let e = countR w64 (s .e) (2 ^ 32) (omega arith) in
+    record {
+      near = (omega (arith, end-is c), omega (arith, end-is c));
+      within = omega (arith, end-is c);
+      fits = rw under (sfits-of (c .eye .given));
+      rises = same-by {z = pos 0 -ℤ pos (s .e)} (search reads depth 20) tt ∙ rise-under (heightAt (s .heights .now)) (s .e) (at c);
+      passed = passed-none;
+    }
+
+sub-sight : tie.Need-sub-sight Inv-search μ-search Inv-loop μ-loop
+sub-sight c = omega arith
+
+add-following : tie.Need-add-following Inv-search μ-search Inv-loop μ-loop
+add-following c = record { fits = omega arith }
+
+add-road : tie.Need-add-road Inv-search μ-search Inv-loop μ-loop
+add-road c = record { fits = omega arith }
+
+mul-road : tie.Need-mul-road Inv-search μ-search Inv-loop μ-loop
+mul-road c = record { fits = omega arith }
+
+shared-slice-copy-out-road : tie.Need-shared-slice-copy-out-road Inv-search μ-search Inv-loop μ-loop
+shared-slice-copy-out-road c = omega arith
+
+cast-road : tie.Need-cast-road Inv-search μ-search Inv-loop μ-loop
+cast-road c = fits-by (search (sizes, sfits-of)) tt
+
+sub-road : tie.Need-sub-road Inv-search μ-search Inv-loop μ-loop
+sub-road c = let v = at-next c in fits-by (search sizes depth 16) tt
+
+cast-line : tie.Need-cast-line Inv-search μ-search Inv-loop μ-loop
+cast-line c = record { sfits = omega arith }
+
+mul-line : tie.Need-mul-line Inv-search μ-search Inv-loop μ-loop
+mul-line c = let v = at-next c in fits-by (search sizes depth 16) tt
+
+cast-if3 : tie.Need-cast-if3 Inv-search μ-search Inv-loop μ-loop
+cast-if3 c = record { sfits = omega (arith, head c .search .inv .passed .before) }
+
+mul-if3 : tie.Need-mul-if3 Inv-search μ-search Inv-loop μ-loop
+mul-if3 c = let v = at-next c in fits-by (search sizes depth 16) tt
+
+add-if4 : tie.Need-add-if4 Inv-search μ-search Inv-loop μ-loop
+add-if4 c = let v = at-next (c .before) in fits-by (search sizes depth 16) tt
+
+cast-if4 : tie.Need-cast-if4 Inv-search μ-search Inv-loop μ-loop
+cast-if4 c = record { sfits = omega (arith, head (c .before) .search .inv .passed .before) }
+
+mul-if4 : tie.Need-mul-if4 Inv-search μ-search Inv-loop μ-loop
+mul-if4 c = let v = at-next (c .before) in fits-by (search sizes depth 16) tt
+
+sub-sight-2 : tie.Need-sub-sight-2 Inv-search μ-search Inv-loop μ-loop
+sub-sight-2 c = omega (arith, head (c .before .before) .search .inv .passed .before)
+
+search-less : tie.Need-search-less Inv-search μ-search Inv-loop μ-loop
+search-less c = nearer (head (c .before) .search .inv .within) (c .before .before .if2 .left) .1
+
+search-again : tie.Need-search-again Inv-search μ-search Inv-loop μ-loop
+search-again c =
+    let v = at-next (c .before) in let l = head (c .before) .search .inv in
+    record {
+      near = l .near;
+      within = nearer (l .within) (c .before .before .if2 .left) .0;
+      fits = v .there;
+      rises = same-by (search reads depth 20) tt;
+      passed = passed-steep (l .passed) (le-yes (c .if3 .taken) (search reads depth 20) tt);
+    }
+
+search-less-2 : tie.Need-search-less-2 Inv-search μ-search Inv-loop μ-loop
+search-less-2 c = nearer (head (c .before .before) .search .inv .within) (c .before .before .before .if2 .left) .1
+
+search-again-2 : tie.Need-search-again-2 Inv-search μ-search Inv-loop μ-loop
+search-again-2 c =
+    let v = at-next (c .before .before) in let l = head (c .before .before) .search .inv in
+    record {
+      near = l .near;
+      within = nearer (l .within) (c .before .before .before .if2 .left) .0;
+      fits = l .fits;
+      rises = l .rises;
+      passed = passed-seen (l .passed)
+          (le-no (c .before .if3 .left) (search reads depth 20) tt)
+          (lt-no (c .if4 .left) (search reads depth 20) tt);
+    }
+
+cast-sights : tie.Need-cast-sights Inv-search μ-search Inv-loop μ-loop
 cast-sights c =
-    let s = c .before .before .before .before .args in
-    let le = sight-le-far (s .heights .now) (c .before .before .loop .i) (s .e) (s .o) (s .far) in
-    record { fits = omega (arith, c .available .ensures) }
+    let station = c .before .before .before in let s = start station .args in
+    let le = sight-le-far (s .heights .now) (at station) (s .e) (s .o) (s .far) in
+    record { fits = omega (arith, sight-is (c .before)) }
 
-mul-sights : tie.Need-mul-sights Inv-loop μ-loop
-mul-sights c = search needs
+mul-sights : tie.Need-mul-sights Inv-search μ-search Inv-loop μ-loop
+mul-sights c = record { fits = omega arith }
 
-slice-write-sights : tie.Need-slice-write-sights Inv-loop μ-loop
-slice-write-sights c = search needs
+slice-write-sights : tie.Need-slice-write-sights Inv-search μ-search Inv-loop μ-loop
+slice-write-sights c = omega arith
 
-add-i : tie.Need-add-i Inv-loop μ-loop
-add-i c = search needs
+add-k : tie.Need-add-k Inv-search μ-search Inv-loop μ-loop
+add-k c = record { fits = omega arith }
 
-loop-less : tie.Need-loop-less Inv-loop μ-loop
-loop-less c = search needs
+loop-less : tie.Need-loop-less Inv-search μ-search Inv-loop μ-loop
+loop-less c = omega arith
 
-loop-again : tie.Need-loop-again Inv-loop μ-loop
+loop-again : tie.Need-loop-again Inv-search μ-search Inv-loop μ-loop
 loop-again c =
-    let s = c .before .before .before .before .args in let l = c .before .before .loop in (
+    let station = c .before .before .before in let s = start station .args in let l = walk station .loop in (
       search needs,
       search needs,
-      filled-next (λ k. availableSight (s .heights .now) k (s .e) (s .o) (s .far)) (l .i) _ _ _ (l .inv .2) (c .available .ensures),
+      filled-next (λ t. availableSight (s .heights .now) (s .first + t) (s .e) (s .o) (s .far)) (l .k) _ _ _ (l .inv .2) (sight-is (c .before)),
     )
 
-same-length : tie.Need-same-length Inv-loop μ-loop
+same-length : tie.Need-same-length Inv-search μ-search Inv-loop μ-loop
 same-length c = search needs
 
-returns : tie.Need-returns Inv-loop μ-loop
-returns c =
-    let s = c .before .before .before .args in
-    let l = c .before .loop in
-    let q : l .i ≡ length (s .heights .now) = omega arith in
-    rw q at (l .inv .2)
+returns : tie.Need-returns Inv-search μ-search Inv-loop μ-loop
+returns c = filled-to _ 0 _ _ _ _ (omega arith) (c .before .loop .inv .2)
 
 pub fill-sights-spec : {M : Type 1} → statement M
 fill-sights-spec =
     tie.close
     (tie.spec
+    Inv-search
+    μ-search
     Inv-loop
     μ-loop
+    cast-height
+    cast-object
     loop-holds
-    available-requires
+    add-i
+    sub-ahead
+    add-end
+    mul-eye
+    shared-slice-copy-out-eye
+    cast-eye
+    add-eye
+    sub-rise
+    search-holds
+    sub-sight
+    add-following
+    add-road
+    mul-road
+    shared-slice-copy-out-road
+    cast-road
+    sub-road
+    cast-line
+    mul-line
+    cast-if3
+    mul-if3
+    add-if4
+    cast-if4
+    mul-if4
+    sub-sight-2
+    search-less
+    search-again
+    search-less-2
+    search-again-2
     cast-sights
     mul-sights
     slice-write-sights
-    add-i
+    add-k
     loop-less
     loop-again
     same-length

@@ -2,12 +2,14 @@
 -- short enough for its number.
 use mathlib.Core.Path.{_≡_, sym, _∙_}
 use borrow.Author.Needs.{needs}
+use native.Mathlib.Nat.{zero-add}
 use native.Mathlib.Omega.{arith}
 use lib.ListN.{length}
 use Rattle.terms.specs.declared.Verdict.the-variants.{Accepted}
 use Rattle.terms.proofs.Laws.{ends-fault, ends-no-room, ends-filled}
 use Rattle.verdicts.specs.Verdicts.{profileVerdict}
 use Rattle.verdicts.proofs.Laws.{profile-in-range}
+use Rattle.sight.specs.Sight.{availableSight}
 use Rattle.sight.specs.Operations.{profileAnswer, profileList}
 use Rattle.sight.proofs.profile.Statement.{statement}
 use Rattle.sight.proofs.profile.Tie as tie
@@ -21,25 +23,27 @@ accepted c = sym (c .before .before .profile-verdict .ensures) ∙ c .enum-told 
 profile-verdict-requires : tie.Need-profile-verdict-requires
 profile-verdict-requires c κs = search needs
 
-enum-known-number : tie.Need-enum-known-number
-enum-known-number c = search needs
+enum-known-verdict : tie.Need-enum-known-verdict
+enum-known-verdict c = search needs
 
 returns : tie.Need-returns
 unfolding profileAnswer profileList
-returns c = ends-fault _ _ _ _ (sym (c .before .before .before .profile-verdict .ensures) ∙ c .before .number .given .1)
+returns c = ends-fault _ _ _ _ (sym (c .before .before .before .profile-verdict .ensures) ∙ c .before .verdict .given .1)
 
 enum-told : tie.Need-enum-told
 enum-told c = search needs
 
 returns-2 : tie.Need-returns-2
 unfolding profileAnswer profileList
-returns-2 c = ends-no-room _ _ _ _ (accepted (c .before)) (c .if1 .taken)
+returns-2 c =
+    let s = c .before .before .before .before .before .args in
+    ends-no-room _ _ (length (s .heights .now)) (s .sights .now) (accepted (c .before)) (omega arith)
 
 fill-sights-requires : tie.Need-fill-sights-requires
-fill-sights-requires c κs = (omega arith, profile-in-range _ _ _ _ (accepted (c .before .before)) .1 .farthest .1)
+fill-sights-requires c κs = (omega arith, omega arith, profile-in-range _ _ _ _ (accepted (c .before .before)) .1 .farthest .1)
 
-cast-t14 : tie.Need-cast-t14
-cast-t14 c =
+cast-t15 : tie.Need-cast-t15
+cast-t15 c =
     let room = c .before .before .before .before in
     record { fits = omega (arith, profile-in-range _ _ _ _ (accepted (room .before)) .0) }
 
@@ -50,18 +54,18 @@ returns-3 : tie.Need-returns-3
 unfolding profileAnswer profileList
 returns-3 c =
     let room = c .before .before .before .before in
-    ends-filled _ _ _ _ _ (accepted (room .before)) (room .if1 .left) (c .before .before .fill-sights .ensures)
+    ends-filled (λ i. availableSight _ i _ _ _) _ _ _ _ (accepted (room .before)) (room .if1 .left) (simp zero-add at (c .before .before .fill-sights .ensures))
 
 pub profile-spec : {M : Type 1} → statement M
 profile-spec =
     tie.close
     (tie.spec
     profile-verdict-requires
-    enum-known-number
+    enum-known-verdict
     returns
     enum-told
     returns-2
     fill-sights-requires
-    cast-t14
+    cast-t15
     same-length
     returns-3)

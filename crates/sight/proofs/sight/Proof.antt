@@ -1,12 +1,19 @@
--- `sight` meets its contract: refused by its verdict, else the available sight, which is at most the farthest distance.
+-- `sight` meets its contract: refused by its verdict, else the walk over one station fills its one place with the available sight,
+-- which is at most the farthest distance.
 use mathlib.Core.Path.{_≡_, refl, ap, sym, _∙_}
+use mathlib.Core.List.{List, [], _∷_}
+use Prim.Native.Nat.{ℕ, _+_}
 use borrow.Author.Needs.{needs}
+use native.Mathlib.Nat.{add-zero}
 use native.Mathlib.Omega.{arith}
-use lib.ListN.{length}
+use lib.IntN.{ℤ}
+use lib.ListN.{length, getD}
+use Rattle.whole.specs.Fill.{filled}
 use Rattle.terms.specs.declared.Answer.the-variants.{Number}
 use Rattle.terms.specs.declared.Verdict.the-variants.{Accepted}
 use Rattle.verdicts.specs.Verdicts.{sightVerdict}
 use Rattle.verdicts.proofs.Laws.{sight-in-range}
+use Rattle.sight.specs.Sight.{availableSight}
 use Rattle.sight.specs.Operations.{sightAnswer}
 use Rattle.sight.proofs.Reach.{sight-le-far}
 use Rattle.sight.proofs.sight.Statement.{statement}
@@ -21,39 +28,54 @@ accepted c = sym (c .before .before .sight-verdict .ensures) ∙ c .enum-told .g
 sight-verdict-requires : tie.Need-sight-verdict-requires
 sight-verdict-requires c κs = search needs
 
-enum-known-number : tie.Need-enum-known-number
-enum-known-number c = search needs
+enum-known-verdict : tie.Need-enum-known-verdict
+enum-known-verdict c = search needs
 
 returns : tie.Need-returns
 unfolding sightAnswer
-returns c = rw (sym (c .before .before .before .sight-verdict .ensures) ∙ c .before .number .given .1) refl
+returns c = rw (sym (c .before .before .before .sight-verdict .ensures) ∙ c .before .verdict .given .1) refl
 
 enum-told : tie.Need-enum-told
 enum-told c = search needs
 
-available-requires : tie.Need-available-requires
-available-requires c κs =
-    let inside = sight-in-range _ _ _ _ _ (accepted c) in
-    (inside .0, inside .2 .farthest .1)
+-- what the one place holds
+one-is : (list : List ℤ) (i e o far : ℕ) (out : List ℕ) →
+    out ≡ filled (λ k. availableSight list (i + k) e o far) 0 1 (0 ∷ []) → getD out 0 0 ≡ availableSight list i e o far
+unfolding filled
+one-is list i e o far out p = rw (p, add-zero i) refl
 
-cast-t11 : tie.Need-cast-t11
-cast-t11 c =
-    let s = c .before .before .before .before .args in
+slice-aggregate-fill-sights : tie.Need-slice-aggregate-fill-sights
+slice-aggregate-fill-sights c = search needs
+
+fill-sights-requires : tie.Need-fill-sights-requires
+fill-sights-requires c κs =
+    let inside = sight-in-range _ _ _ _ _ (accepted (c .before)) in
+    (omega (arith, inside .0), omega arith, inside .2 .farthest .1)
+
+array-read-t17 : tie.Need-array-read-t17
+array-read-t17 c = search needs
+
+cast-t18 : tie.Need-cast-t18
+cast-t18 c =
+    let s = c .before .before .before .before .before .before .args in
     let le = sight-le-far (s .heights .now) (s .station) (s .eye) (s .object) (s .farthest) in
-    record { fits = omega (arith, c .available .ensures) }
+    record { fits = omega (arith, one-is _ _ _ _ _ _ (c .before .fill-sights .ensures)) }
 
 returns-2 : tie.Need-returns-2
 unfolding sightAnswer
-returns-2 c = rw (accepted (c .before)) (ap Number (c .available .ensures))
+returns-2 c =
+    rw (accepted (c .before .before .before)) (ap Number (one-is _ _ _ _ _ _ (c .before .fill-sights .ensures)))
 
 pub sight-spec : {M : Type 1} → statement M
 sight-spec =
     tie.close
     (tie.spec
     sight-verdict-requires
-    enum-known-number
+    enum-known-verdict
     returns
     enum-told
-    available-requires
-    cast-t11
+    slice-aggregate-fill-sights
+    fill-sights-requires
+    array-read-t17
+    cast-t18
     returns-2)
