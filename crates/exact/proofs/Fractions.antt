@@ -34,6 +34,7 @@ module _ {p q : Frac} (n : ℕ) (h : Le p q) where
       let vp = var (p .num) in let vq = var (q .num) in
       record { products = le-by (search reps) (search reps) (omega (arith, le-to (*ℤ-mono n (h .products)) (search reps) (search reps))) }
 
+-- both sides of a comparison of sums, over all four denominators
 left-over : (m n a b s t : ℤ) → (m *ℤ b +ℤ n *ℤ a) *ℤ (s *ℤ t) ≡ m *ℤ s *ℤ (b *ℤ t) +ℤ n *ℤ t *ℤ (a *ℤ s)
 left-over m n a b s t = simp ring
 

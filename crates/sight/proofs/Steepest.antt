@@ -78,7 +78,7 @@ module _ (h : ℕ → ℤ) (e o i n : ℕ) where
       slope-by-clears (h i +ℤ pos e) (h (i + n)) (h (i + t)) (pos o) (i + n - (i + t)) t n (omega arith)
       (rw (p, q) at (g (i + t) (omega arith) (omega arith)))
 
--- straight down, to the road under the eye, no line is flatter
+-- no line is flatter than the one straight down, to the road under the eye
 flatter-ahead : (h : ℕ → ℤ) (e i : ℕ) (x : ℤ) (run n : ℕ) → Flatter x n (rise h e i run) run → 0 < run
 flatter-ahead h e i x zero n f =
     let q : i + 0 ≡ i = omega arith in let v = var (h i) in let vx = var x in
