@@ -26,7 +26,7 @@ test: tools
 	log=$$(mktemp)
 	trap 'rm -f "$$log"' EXIT
 	rt ci | tee "$$log"
-	for library in $(LIBRARIES); do rt staticlib $$library; done
+	printf '%s\n' $(LIBRARIES) | xargs -n 1 -P 2 rt staticlib
 	cargo test --workspace --release --offline --quiet
 	tail -n 1 "$$log"
 
