@@ -1,5 +1,6 @@
-# The kit that the crates are proved with, as `rt version` names it.
-KIT := rattle-kit-5b-plain logic 097e4c862dff5811
+# The kits that the crates are proved with, as `rt version` names them.
+KIT := rattle-kit-5b logic 064da1ca440f63e7
+PLAIN_KIT := rattle-kit-5b-plain logic 097e4c862dff5811
 
 SHELL := /bin/bash
 .SHELLFLAGS := -euo pipefail -c
@@ -93,7 +94,7 @@ endef
 # $(call need,TEST,MESSAGE): where the shell's test fails, make stops with the message.
 need = $(if $(shell ($1) >/dev/null 2>&1 && echo holds),,$(error $2))
 
-kit = $(call need,[ "$$(rt version)" = "$(KIT)" ],rt is not on the path or of another kit: install $(KIT))
+kit = $(call need,rt version | grep -qxF -e "$(KIT)" -e "$(PLAIN_KIT)",rt is not on the path or of another kit: install $(KIT))
 
 tools:
 	$(kit)
