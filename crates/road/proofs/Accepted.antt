@@ -11,14 +11,14 @@ use lib.ListN.{length, getD}
 use lib.Seq.{getD-take, length-take-le}
 use lib.Signed.{_≤ℤ_}
 use Rattle.whole.proofs.Table.{Each}
-use Rattle.terms.specs.Answers.{outside, outsideℤ}
+use Rattle.terms.specs.Answers.{outside, outsideℤ, gradeOutside}
 use Rattle.terms.specs.Limits.{leastSpeed, greatestSpeed, firstDecision, lastPurpose, greatestRoad, lowestStart, highestStart, greatestGrade, greatestCurveCount, greatestCurve}
 use Rattle.terms.specs.Refusals.{curveCountRefused, speedRefused, purposeRefused, roadLengthRefused, startRefused, gradeRefused, curveLengthRefused, curvePlaceRefused, curveOrderRefused}
 use Rattle.terms.specs.declared.Verdict.the-variants.{Accepted}
 use Rattle.terms.proofs.Laws.{fault-accepted, first-fault-accepted, no-difference, inside, inside-ℤ}
 use Rattle.road.specs.declared.Curve.{Curve}
 use Rattle.road.specs.declared.Road.{Road}
-use Rattle.road.specs.Road.{half, begin, end, startOf, curvesOf, gradeOutside, lengthOutside, placeOutside, curveVerdict, curvesVerdict, numbersVerdict, roadVerdict}
+use Rattle.road.specs.Road.{half, begin, end, startOf, curvesOf, lengthOutside, placeOutside, curveVerdict, curvesVerdict, numbersVerdict, roadVerdict}
 use Rattle.road.specs.Order.{Placed, InOrder, CurveInRange}
 
 -- ---- curves

@@ -6,14 +6,14 @@ use native.Mathlib.Omega.{arith}
 use lib.Dec.{ltb}
 use lib.ListN.{length, drop, getD}
 use lib.Seq.{drop-length, length-take-le}
-use Rattle.terms.specs.Answers.{outside, outsideℤ, firstFault}
+use Rattle.terms.specs.Answers.{outside, outsideℤ, gradeOutside, firstFault}
 use Rattle.terms.specs.Limits.{leastSpeed, greatestSpeed, firstDecision, lastPurpose, greatestRoad, lowestStart, highestStart, greatestCurveCount}
 use Rattle.terms.proofs.Laws.{ByteFault, fault-byte, first-fault-byte}
 use Rattle.terms.specs.declared.Verdict.the-variants.{Accepted}
 use Rattle.road.specs.declared.Curve.{Curve}
 use Rattle.road.specs.declared.Road.{Road}
-use Rattle.road.specs.Road.{begin, end, startOf, gradeOutside, lengthOutside, placeOutside, curvesOf, curveVerdict, curvesVerdict, numbersVerdict, roadVerdict}
-use Rattle.road.proofs.Places.{next-curve}
+use Rattle.road.specs.Road.{begin, end, startOf, lengthOutside, placeOutside, curvesOf, curveVerdict, curvesVerdict, numbersVerdict, roadVerdict}
+use Rattle.road.proofs.Places.{next-curve, place-in-use}
 
 -- ---- the curves from a place on
 -- from place i on: the fault of the curve there; else as the curves after it say
@@ -21,7 +21,7 @@ module _ (r : Road) (holds : r .count ≤ length (r .curves)) (n : ℕ) (before 
   pub curves-verdict-step : (i : ℕ) (d : Curve) → i < r .count → let c = getD (r .curves) i d in
       curvesVerdict n before (drop i (curvesOf r)) ≡ firstFault (curveVerdict n before c) (curvesVerdict n c (drop (i + 1) (curvesOf r)))
   unfolding curvesVerdict
-  curves-verdict-step i d h = rw (next-curve r i d holds h)
+  curves-verdict-step i d h = rw (next-curve r i d (place-in-use r holds h))
 
   pub curves-verdict-end : curvesVerdict n before (drop (r .count) (curvesOf r)) ≡ Accepted
   unfolding curvesVerdict

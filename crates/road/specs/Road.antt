@@ -4,10 +4,10 @@ use Prim.Native.Nat.{ℕ, _+_, _-_, _/_, _%_}
 use mathlib.Core.Bool.{Bool, not, _||_}
 use mathlib.Core.List.{List, [], _∷_}
 use lib.Dec.{ltb, eqb}
-use lib.IntN.{ℤ, pos, negℤ}
+use lib.IntN.{pos}
 use lib.ListN.{take}
-use Rattle.terms.specs.Answers.{outside, outsideℤ, fault, firstFault}
-use Rattle.terms.specs.Limits.{leastSpeed, greatestSpeed, firstDecision, lastPurpose, greatestRoad, lowestStart, highestStart, greatestGrade, greatestCurveCount, greatestCurve}
+use Rattle.terms.specs.Answers.{outside, outsideℤ, gradeOutside, fault, firstFault}
+use Rattle.terms.specs.Limits.{leastSpeed, greatestSpeed, firstDecision, lastPurpose, greatestRoad, lowestStart, highestStart, greatestCurveCount, greatestCurve}
 use Rattle.terms.specs.Refusals.{curveCountRefused, speedRefused, purposeRefused, roadLengthRefused, startRefused, gradeRefused, curveLengthRefused, curvePlaceRefused, curveOrderRefused}
 use Rattle.terms.specs.declared.Verdict.{Verdict}
 use Rattle.terms.specs.declared.Verdict.the-variants.{Accepted}
@@ -31,10 +31,6 @@ curvesOf r = take (r .count) (r .curves)
 -- an unused curve place
 abbrev pub noCurve : Curve
 noCurve = record { pvi = 0; length = 0; «grade_out» = pos 0 }
-
--- a grade is not −1,500 to 1,500
-abbrev pub gradeOutside : ℤ → Bool
-gradeOutside g = outsideℤ (negℤ (pos greatestGrade)) (pos greatestGrade) g
 
 -- a curve's length is odd or over 2,000
 abbrev pub lengthOutside : Curve → Bool

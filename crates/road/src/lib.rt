@@ -2,7 +2,7 @@
 ghost use Prim.Native.Nat.{_≤_};
 ghost use mathlib.Core.Path.{_≡_};
 ghost use Rattle.terms.specs.Limits.{greatestCurveCount};
-ghost use Rattle.road.specs.Road.{half, begin, end, startOf, gradeOutside, curvesOf, curveVerdict, curvesVerdict, numbersVerdict, roadVerdict};
+ghost use Rattle.road.specs.Road.{half, begin, end, startOf, curvesOf, curveVerdict, curvesVerdict, numbersVerdict, roadVerdict};
 use terms::Verdict;
 
 // A curve: the station where its two straights meet (PVI), its length in metres, and its grade out.
@@ -27,13 +27,6 @@ pub struct Road {
     pub curves: [Curve; CURVE_PLACES],
 }
 
-// Whether a grade is out of its range.
-fn grade_outside(grade: i16) -> bool
-    ensures { λ r. ⌜ r ≡ gradeOutside grade ⌝ }
-{
-    (grade < -terms::GREATEST_GRADE) | (terms::GREATEST_GRADE < grade)
-}
-
 // Refusals 6 to 10 of a road's own numbers, the curves left out.
 fn numbers_verdict(road: Road) -> Verdict
     ensures { λ r. ⌜ r ≡ numbersVerdict road ⌝ }
@@ -53,8 +46,8 @@ fn numbers_verdict(road: Road) -> Verdict
     if (start < terms::LOWEST_START) | (terms::HIGHEST_START < start) {
         return Verdict::Fault(terms::START_REFUSED);
     }
-    let grade = road.first_grade;
-    if grade_outside(grade) {
+    let grade = road.first_grade as i32;
+    if terms::grade_outside(grade) {
         return Verdict::Fault(terms::GRADE_REFUSED);
     }
     Verdict::Accepted
@@ -90,8 +83,8 @@ pub fn end_of(c: Curve) -> u64
 fn curve_verdict(before: Curve, c: Curve, n: u32) -> Verdict
     ensures { λ r. ⌜ r ≡ curveVerdict n before c ⌝ }
 {
-    let grade = c.grade_out;
-    if grade_outside(grade) {
+    let grade = c.grade_out as i32;
+    if terms::grade_outside(grade) {
         return Verdict::Fault(terms::GRADE_REFUSED);
     }
     let length = c.length;

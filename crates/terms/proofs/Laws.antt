@@ -9,14 +9,14 @@ use mir.Syntax.{w32}
 use mir.Val.{SFits}
 use borrow.Author.Tests.{lt-ltb, le-ltb}
 use lib.Dec.{T, ltb, eqb, eqb→eq, nltb→le}
-use lib.IntN.{ℤ}
+use lib.IntN.{ℤ, pos, negℤ}
 use lib.ListN.{length, take, replicate, length-replicate}
 use lib.Seq.{length-take-le}
-use lib.Signed.{_≤ℤ_, ltZ, ltZ-no}
+use lib.Signed.{_≤ℤ_, ltZ, ltZ-yes, ltZ-no, clashℤ}
 use Rattle.whole.specs.Fill.{filled}
 use Rattle.whole.proofs.Fill.{filled-length, filled-take, filled-whole}
-use Rattle.terms.specs.Answers.{outside, outsideℤ, eyeOrObjectOutside, refuse, roomFor, written, fault, firstFault, unless, valueOrZero, signed}
-use Rattle.terms.specs.Limits.{greatestHeight}
+use Rattle.terms.specs.Answers.{outside, outsideℤ, gradeOutside, eyeOrObjectOutside, refuse, roomFor, written, fault, firstFault, unless, valueOrZero, signed}
+use Rattle.terms.specs.Limits.{greatestGrade, greatestHeight}
 use Rattle.terms.specs.Refusals.{roomRefused}
 use Rattle.terms.specs.declared.Answer.{Answer}
 use Rattle.terms.specs.declared.Answer.the-variants.{Number, Refused}
@@ -138,7 +138,32 @@ pub heights-not-outside :
     (e o : ℕ) → (1 ≤ e) × (e ≤ greatestHeight) → (1 ≤ o) × (o ≤ greatestHeight) → eyeOrObjectOutside e o ≡ false
 heights-not-outside e o p q = simp (not-outside 1 greatestHeight e p, not-outside 1 greatestHeight o q)
 
+-- of a signed number
 pub inside-ℤ : (low high z : ℤ) → T (not (outsideℤ low high z)) → (low ≤ℤ z) × (z ≤ℤ high)
 inside-ℤ low high z t =
     let n = or-no (ltZ z low) (ltZ high z) t in
     (ltZ-no (n .0), ltZ-no (n .1))
+
+-- ---- grades
+-- a number that is no less than another is not below it
+not-below : {x y : ℤ} → x ≤ℤ y → ltZ y x ≡ false
+not-below {x} {y} h = go (ltZ y x) refl
+  where
+    go : (t : Bool) → ltZ y x ≡ t → t ≡ false
+    go true e = clashℤ (ltZ-yes (subst T (sym e) tt)) h
+    go false e = refl
+
+-- a grade in its range
+abbrev pub GradeIn : ℤ → Type 0
+GradeIn g = (negℤ (pos greatestGrade) ≤ℤ g) × (g ≤ℤ pos greatestGrade)
+
+pub grade-inside : (g : ℤ) → T (not (gradeOutside g)) → GradeIn g
+grade-inside g = inside-ℤ (negℤ (pos greatestGrade)) (pos greatestGrade) g
+
+-- the same of the flag that a function answered
+pub grade-in : (g : ℤ) → gradeOutside g ≡ false → GradeIn g
+grade-in g e = grade-inside g (subst (λ (t : Bool). T (not t)) (sym e) tt)
+
+-- a grade in its range is not outside it
+pub grade-not-outside : (g : ℤ) → GradeIn g → gradeOutside g ≡ false
+grade-not-outside g h = simp (not-below (h .0), not-below (h .1))

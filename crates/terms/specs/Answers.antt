@@ -7,7 +7,7 @@ use lib.IntN.{ℤ, pos, negℤ}
 use lib.ListN.{length}
 use lib.Signed.{ltZ}
 use Rattle.whole.specs.Fill.{filled}
-use Rattle.terms.specs.Limits.{greatestList, greatestHeight}
+use Rattle.terms.specs.Limits.{greatestGrade, greatestList, greatestHeight}
 use Rattle.terms.specs.Refusals.{roomRefused}
 use Rattle.terms.specs.declared.Answer.{Answer}
 use Rattle.terms.specs.declared.Answer.the-variants.{Number, Refused}
@@ -29,6 +29,10 @@ eyeOrObjectOutside e o = outside 1 greatestHeight e || outside 1 greatestHeight 
 -- z is not low to high
 abbrev pub outsideℤ : ℤ → ℤ → ℤ → Bool
 outsideℤ low high z = ltZ z low || ltZ high z
+
+-- a grade is not −1,500 to 1,500
+abbrev pub gradeOutside : ℤ → Bool
+gradeOutside g = outsideℤ (negℤ (pos greatestGrade)) (pos greatestGrade) g
 
 -- where the test holds, refused by that number; else as the rest says
 abbrev pub refuse : Bool → ℕ → Answer → Answer

@@ -2,7 +2,7 @@
 // docs/RULES.md as the code names them. specs/Limits.antt and specs/Refusals.antt give the definitions the same numbers under the same names.
 
 ghost use mathlib.Core.Path.{_≡_};
-ghost use Rattle.terms.specs.Answers.{outside, listOutside, eyeOrObjectOutside, valueOrZero, signed};
+ghost use Rattle.terms.specs.Answers.{outside, gradeOutside, listOutside, eyeOrObjectOutside, valueOrZero, signed};
 
 // The value, or the number of the refusal.
 pub enum Answer {
@@ -84,7 +84,7 @@ pub const LOWEST_START: i32 = -10000000;
 
 pub const HIGHEST_START: i32 = 90000000;
 
-pub const GREATEST_GRADE: i16 = 1500;
+pub const GREATEST_GRADE: i32 = 1500;
 
 pub const GREATEST_CURVE_COUNT: u8 = 32;
 
@@ -124,6 +124,13 @@ pub fn outside(low: u32, high: u32, x: u32) -> bool
     ensures { λ r. ⌜ r ≡ outside low high x ⌝ }
 {
     (x < low) | (high < x)
+}
+
+// Whether a grade is out of its range.
+pub fn grade_outside(grade: i32) -> bool
+    ensures { λ r. ⌜ r ≡ gradeOutside grade ⌝ }
+{
+    (grade < -GREATEST_GRADE) | (GREATEST_GRADE < grade)
 }
 
 // Whether a list of heights or marks is empty or too long.

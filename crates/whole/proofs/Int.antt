@@ -9,7 +9,7 @@ use Prim.Native.Nat.{ℕ, zero, suc, _+_, _*_, _-_, _≤_, _<_}
 use native.Mathlib.Omega.{arith}
 use lib.Dec.{T, ltb, leb→le, le→leb, lt→ltb, ltb→lt, nltb→le}
 use lib.IntN.{ℤ, pos, negsuc, negℤ, subℕ, natAbs, _+ℤ_, _*ℤ_}
-use lib.Signed.{_≤ℤ_, _<ℤ_, leZ, ltZ}
+use lib.Signed.{_≤ℤ_, _<ℤ_, leZ, ltZ, nonNeg}
 
 -- ---- the part above zero and the part below
 abbrev pub up : ℤ → ℕ
@@ -77,6 +77,11 @@ mul-ok x y p n q m e f =
 
 pub by-ok : (x : ℤ) (p n k : ℕ) → up x + n ≡ p + dn x → up (x *ℤ pos k) + n * k ≡ p * k + dn (x *ℤ pos k)
 by-ok x p n k e = omega (arith, mul-ok x (pos k) p n k 0 e refl)
+
+-- where p is no less than n, z is a natural number
+pub natural-is : (z : ℤ) (i : Is z) → i .n ≤ i .p → T (nonNeg z) × (natAbs z + i .n ≡ i .p)
+natural-is (pos k) i h = (tt, omega (arith, i .ok))
+natural-is (negsuc k) i h = absurd (omega (arith, i .ok))
 
 -- a variable
 abbrev pub var : (z : ℤ) → Is z
@@ -156,3 +161,9 @@ le-to {x} {y} h a b = omega (arith, parts-le x y (h .le), a .ok, b .ok)
 
 pub lt-to : {x y : ℤ} → x <ℤ y → (a : Is x) (b : Is y) → a .p + b .n < b .p + a .n
 lt-to {x} {y} h a b = omega (arith, parts-lt x y (h .lt), a .ok, b .ok)
+
+-- ---- the size of a number that is not positive is its opposite
+pub neg-natAbs : (z : ℤ) → z ≤ℤ pos 0 → negℤ z ≡ pos (natAbs z)
+neg-natAbs (pos zero) h = refl
+neg-natAbs (pos (suc n)) h = absurd (omega (arith, le-to h (nat (suc n)) (nat 0)))
+neg-natAbs (negsuc n) h = refl

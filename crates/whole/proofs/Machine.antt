@@ -3,12 +3,12 @@
 use mathlib.Core.Path.{_≡_, refl, sym, _∙_, subst}
 use mathlib.Core.Bool.{Bool, true, false, not}
 use Prim.Native.Nat.{_<_, _^_}
-use lib.Dec.{T, lt→ltb, nleb→lt}
+use lib.Dec.{T, leb, lt→ltb, nleb→lt}
 use lib.IntN.{ℤ, pos, negsuc}
 use lib.Signed.{mag, ltZ, leZ, _≤ℤ_, _<ℤ_, ltZ-yes, ltZ-no, leZ-yes}
 use mir.Syntax.{Width}
 use mir.Val.{SFits, hbits, toZ, ofZ}
-use mir.Facts.{toZ-ofZ}
+use mir.Facts.{toZ-ofZ, sfits-widen}
 use Rattle.whole.proofs.Range.{Tests}
 
 -- ---- what is read back
@@ -19,6 +19,14 @@ plain f = toZ-ofZ f
 -- of a call's result (`c .f .ok`)
 pub got : (w : Width) (z : ℤ) → mag z < 2 ^ hbits w → toZ w (ofZ w z) ≡ z
 got w z h = toZ-ofZ record { sfits = h }
+
+-- of a number that was cast to a width that is no narrower, and what that cast asks
+module _ (w v : Width) (z : ℤ) (h : mag z < 2 ^ hbits w) (wider : T (leb (hbits w) (hbits v))) where
+  pub widened-fits : SFits v (toZ w (ofZ w z))
+  widened-fits = sfits-widen {w = w} {w′ = v} wider (rw (got w z h) record { sfits = h })
+
+  pub widened : toZ v (ofZ v (toZ w (ofZ w z))) ≡ z
+  widened = plain widened-fits ∙ got w z h
 
 -- ---- a test's flag, of numbers that are known
 not-le : (a b : ℤ) → T (not (leZ a b)) → T (ltZ b a)

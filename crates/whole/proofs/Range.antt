@@ -145,8 +145,12 @@ readR w {m} {z} u = record {
 abbrev pub leafR : (w : Width) {z : ℤ} → SFits w z → Reads (toZ w (ofZ w z)) z
 leafR w f = record { size = leafB w f; good = true; same = λ t. toZ-ofZ f }
 
+-- a natural, as a literal is, and a count
+abbrev pub natR : {k : ℕ} (b : ℕ) → k ≤ b → Reads (pos k) (pos k)
+natR b h = record { size = natB b h; good = true; same = λ t. refl }
+
 abbrev pub countR : (w : Width) (n b : ℕ) → n ≤ b → Reads (toZ w n) (pos n)
-countR w n b h = readR w {m = pos n} record { size = natB b h; good = true; same = λ t. refl }
+countR w n b h = readR w {m = pos n} (natR b h)
 
 -- a signed number of a known size
 abbrev pub knownR : (w : Width) (z : ℤ) (b : ℕ) → natAbs z ≤ b → Reads (toZ w (ofZ w z)) z

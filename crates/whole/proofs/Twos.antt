@@ -5,12 +5,13 @@ use mathlib.Core.Path.{_≡_, refl, sym, ap, _∙_}
 use mathlib.Core.Bool.{true, false}
 use Prim.Native.Nat.{ℕ, suc, _+_, _-_, _<_, _^_}
 use native.Mathlib.Omega.{arith}
-use lib.Dec.{T}
+use borrow.Author.Tests.{ne-eqb}
+use lib.Dec.{T, eqb}
 use lib.IntN.{ℤ, pos, negsuc, natAbs, _-ℤ_}
 use lib.Signed.{mag, ltZ, nonNeg, _<ℤ_, _≤ℤ_}
 use mir.Syntax.{Width}
 use mir.Val.{Fits, SFits, bits, hbits, toZ, ofZ}
-use mir.ValLaws.{half-full}
+use mir.ValLaws.{half-full, pow-bits}
 use mir.Facts.{toZ-pos, toZ-neg, ofZ-toZ, fits-ofZ, fits-of-lt}
 use Rattle.whole.proofs.Int.{var, nat, add, neg, eq-by, lt-to}
 use Rattle.whole.proofs.Machine.{plain, lt-true, lt-false}
@@ -21,6 +22,13 @@ bits-below f = fits-ofZ f .fits
 
 pub bits-back : (w : Width) {n : ℕ} → n < 2 ^ bits w → ofZ w (toZ w n) ≡ n
 bits-back w h = ofZ-toZ (fits-of-lt {w = w} h)
+
+-- the bits of 0 alone are 0
+pub zero-bits : {w : Width} {z : ℤ} → SFits w z → eqb (ofZ w z) 0 ≡ eqb (natAbs z) 0
+zero-bits {z = pos n} f = refl
+zero-bits {w} {z = negsuc n} f =
+    let some : 0 < 2 ^ bits w - suc n = omega (arith, f .sfits, pow-bits w) in
+    ne-eqb (2 ^ bits w - suc n) 0 (λ e. omega arith) ∙ sym (ne-eqb (suc n) 0 (λ e. omega arith))
 
 -- ---- turning over: −1 − z
 pub turn-pos : (m : ℕ) → negsuc 0 -ℤ pos m ≡ negsuc m

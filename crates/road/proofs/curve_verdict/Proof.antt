@@ -4,20 +4,23 @@ use mathlib.Core.Path.{_≡_, sym, _∙_}
 use borrow.Author.Needs.{needs}
 use borrow.Author.Tests.{lt-ltb, le-ltb}
 use lib.Dec.{ltb}
-use mir.Syntax.{w16}
-use Rattle.whole.proofs.Machine.{got}
-use Rattle.terms.specs.Answers.{fault}
+use mir.Syntax.{w16, w32}
+use Rattle.whole.proofs.Machine.{widened-fits, widened}
+use Rattle.terms.specs.Answers.{gradeOutside, fault}
 use Rattle.terms.specs.Refusals.{curvePlaceRefused, curveOrderRefused}
 use Rattle.terms.specs.declared.Verdict.the-variants.{Accepted}
-use Rattle.road.specs.Road.{begin, end, gradeOutside, curveVerdict}
+use Rattle.road.specs.Road.{begin, end, curveVerdict}
 use Rattle.road.proofs.curve_verdict.Statement.{statement}
 use Rattle.road.proofs.curve_verdict.Tie as tie
+
+cast-grade : tie.Need-cast-grade
+cast-grade c = widened-fits w16 w32 (c .before .before .args .c .«grade_out») (c .struct-told .given .1 .1 .0 .1) tt
 
 grade-outside-requires : tie.Need-grade-outside-requires
 grade-outside-requires c κs = search needs
 
-grade-tested : (c : tie.After-grade-outside) → gradeOutside (c .before .before .args .c .«grade_out») ≡ c .grade-outside .result
-grade-tested c = sym (rw (got w16 _ (c .before .struct-told .given .1 .1 .0 .1)) at (c .grade-outside .ensures))
+grade-tested : (c : tie.After-grade-outside) → gradeOutside (c .before .before .before .args .c .«grade_out») ≡ c .grade-outside .result
+grade-tested c = sym (rw (widened w16 w32 _ (c .before .struct-told .given .1 .1 .0 .1) tt) at (c .grade-outside .ensures))
 
 returns : tie.Need-returns
 unfolding curveVerdict
@@ -38,7 +41,7 @@ end-of-requires c κs = search needs
 -- the verdict past the tests of the grade and the length, with what the calls told of the place
 module _ (c : tie.After-end-of) where
   abbrev begun : tie.Start
-  begun = c .before .before .before .before .before .before .before
+  begun = c .before .before .before .before .before .before .before .before
 
   past-length : let a = begun .args in
       curveVerdict (a .n) (a .before) (a .c) ≡ fault (ltb (a .c .pvi) (c .before .before .half-of .result) || ltb (a .n) (c .end-of .result)) curvePlaceRefused
@@ -73,6 +76,7 @@ pub curve-verdict-spec : {M : Type 1} → statement M
 curve-verdict-spec =
     tie.close
     (tie.spec
+    cast-grade
     grade-outside-requires
     returns
     returns-2

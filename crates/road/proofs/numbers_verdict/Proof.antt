@@ -3,13 +3,13 @@
 use mathlib.Core.Path.{_≡_, sym, _∙_}
 use borrow.Author.Needs.{needs}
 use mir.Syntax.{w16, w32}
-use Rattle.whole.proofs.Machine.{got}
-use Rattle.terms.specs.Answers.{outsideℤ, fault}
+use Rattle.whole.proofs.Machine.{got, widened-fits, widened}
+use Rattle.terms.specs.Answers.{outsideℤ, gradeOutside, fault}
 use Rattle.terms.specs.Limits.{lowestStart, highestStart}
 use Rattle.terms.specs.Refusals.{startRefused, gradeRefused}
 use Rattle.road.specs.declared.Road.{Road}
 use Rattle.terms.specs.declared.Verdict.the-variants.{Accepted}
-use Rattle.road.specs.Road.{gradeOutside, numbersVerdict}
+use Rattle.road.specs.Road.{numbersVerdict}
 use Rattle.road.proofs.numbers_verdict.Statement.{statement}
 use Rattle.road.proofs.numbers_verdict.Tie as tie
 
@@ -76,18 +76,21 @@ module _ (c : tie.Else3) where
 returns-4 : tie.Need-returns-4
 returns-4 c = sym (past-length (c .before .before) ∙ simp (rw (got w32 _ (c .before .struct-told .given .1 .1 .1 .0 .1)) at (c .if4 .taken)))
 
+cast-grade : tie.Need-cast-grade
+cast-grade c = widened-fits w16 w32 (given (c .before .before .before .before) .«first_grade») (c .struct-told2 .given .1 .1 .1 .1 .0 .1) tt
+
 grade-outside-requires : tie.Need-grade-outside-requires
 grade-outside-requires c κs = search needs
 
 -- past the test of the start height, with what the call told of the grade
-past-start : (c : tie.After-grade-outside) → let road = given (c .before .before .before .before) in
+past-start : (c : tie.After-grade-outside) → let road = given (c .before .before .before .before .before) in
     numbersVerdict road ≡ fault (c .grade-outside .result) gradeRefused Accepted
 past-start c =
-    let start = c .before .before in
+    let start = c .before .before .before in
     past-length (start .before .before)
     ∙ simp (
       rw (got w32 _ (start .before .struct-told .given .1 .1 .1 .0 .1)) at (start .if4 .left),
-      sym (rw (got w16 _ (c .before .struct-told2 .given .1 .1 .1 .1 .0 .1)) at (c .grade-outside .ensures)),
+      sym (rw (widened w16 w32 _ (c .before .struct-told2 .given .1 .1 .1 .1 .0 .1) tt) at (c .grade-outside .ensures)),
     )
 
 returns-5 : tie.Need-returns-5
@@ -109,6 +112,7 @@ numbers-verdict-spec =
     outside-requires-3
     returns-3
     returns-4
+    cast-grade
     grade-outside-requires
     returns-5
     returns-6)
