@@ -1,16 +1,19 @@
 -- Laws of the required distance: what rounding up to 5 m is, and how large its numbers are.
 use mathlib.Core.Path.{_≡_, ap}
-use mathlib.Core.Bool.{Bool, true, false, cond}
-use Prim.Native.Nat.{ℕ, _+_, _*_, _-_, _≤_, _<_}
-use native.Mathlib.Nat.{mul-le-mul, div-mul-le-self, lt-div-mul-add, div-eq-of-lt-le}
+use mathlib.Core.Bool.{Bool, true, false, not, cond, _&&_}
+use Prim.Native.Nat.{ℕ, _+_, _*_, _-_, _≤_, _<_, zero-le}
+use native.Mathlib.Nat.{le-refl, mul-le-mul, div-mul-le-self, lt-div-mul-add, div-eq-of-lt-le, lt-of-mul-lt-mul-right}
 use native.Mathlib.Omega.{arith}
-use lib.Dec.{ltb}
+use lib.Dec.{T, ltb, eqb}
+use lib.IntN.{ℤ, pos, natAbs, _+ℤ_, _*ℤ_}
+use lib.Signed.{nonNeg}
+use Rattle.whole.proofs.Int.{var, nat, add, neg, mul, le-to, natural-is}
 use Rattle.whole.proofs.Table.{each-at}
-use Rattle.terms.specs.Answers.{outside}
-use Rattle.terms.specs.Limits.{leastSpeed, greatestSpeed, stoppingPurpose, lastPurpose}
-use Rattle.terms.proofs.Laws.{AtMost, value-at-most, refuse-at-most, inside}
+use Rattle.terms.specs.Answers.{outside, gradeOutside}
+use Rattle.terms.specs.Limits.{leastSpeed, greatestSpeed, stoppingPurpose, lastPurpose, greatestGrade}
+use Rattle.terms.proofs.Laws.{AtMost, GradeIn, value-at-most, refuse-at-most, inside, grade-inside}
 use Rattle.distance.specs.declared.Purpose.{Purpose}
-use Rattle.distance.specs.Distance.{purposes, purposeRow, metreParts, levelParts, upToFive, requiredDistance, distancesFor}
+use Rattle.distance.specs.Distance.{purposes, purposeRow, metreParts, levelParts, decelerationParts, gradedParts, upToFive, levelMetres, gradedMetres, metresFor, requiredDistance, distancesFor}
 
 -- ---- rounding up to 5 m
 module _ (num den : ℕ) (l : 0 < den) where
@@ -29,35 +32,77 @@ pub up-to-five-exact : (k den : ℕ) → 0 < den → upToFive (5 * k * den) den 
 unfolding upToFive
 up-to-five-exact k den l = ap (λ (n : ℕ). 5 * n) (div-eq-of-lt-le (5 * den) (omega arith) (omega arith))
 
+-- ---- on a grade
+-- the parts over 635,000 b are 278 V t / 10,000 + 9,810,000 V² / (254 b), with the numbers of equation (2) as they stand there
+pub graded-parts-is : (v : ℕ) (p : Purpose) (b : ℕ) →
+    gradedParts v p b * (10000 * (254 * b)) ≡ (278 * v * p .reaction * (254 * b) + 10000 * (9810000 * v * v)) * (635000 * b)
+unfolding gradedParts
+graded-parts-is v p b = omega arith
+
 -- ---- sizes
 pub reaction-small : (p : ℕ) → purposeRow p .reaction ≤ 145
 reaction-small p = each-at (λ (row : Purpose). row .reaction ≤ 145) purposes p _ (omega arith) (λ _. omega arith)
 
-cond-small : (b : Bool) {n k : ℕ} → n ≤ k → cond b n 0 ≤ k
-cond-small true h = h
-cond-small false h = omega arith
+either : (b : Bool) {m n k : ℕ} → m ≤ k → n ≤ k → cond b m n ≤ k
+either true h l = h
+either false h l = l
 
--- at most 718 m
+-- on a level road at most 718 m
 pub level-parts-small : (v : ℕ) (p : Purpose) → v ≤ greatestSpeed → p .reaction ≤ 145 → levelParts v p ≤ 122040100
 unfolding levelParts
 level-parts-small v p h k =
     let r = mul-le-mul h k in
     let b : 1950 * v * v ≤ 32955000 = omega (arith, mul-le-mul h h) in
-    omega (arith, cond-small (p .braking) b)
+    omega (arith, either (p .braking) b zero-le)
 
--- a required distance is at most 725 m
-pub required-at-most : (v p : ℕ) → AtMost 725 (requiredDistance v p)
+-- on a grade b is positive, and from 1,928,500 to 4,871,500
+module _ (g : ℤ) (range : GradeIn g) where
+  pub deceleration-in : T (nonNeg (pos 3400000 +ℤ pos 981 *ℤ g)) × (1928500 ≤ decelerationParts g) × (decelerationParts g ≤ 4871500)
+  deceleration-in =
+      let low = le-to (range .0) (neg (nat greatestGrade)) (var g) in
+      let high = le-to (range .1) (var g) (nat greatestGrade) in
+      let is = natural-is _ (add (nat 3400000) (mul (nat 981) (var g))) (omega arith) in
+      (is .0, omega (arith, is .1), omega (arith, is .1))
+
+-- so that the distance is at most 863 m
+pub graded-parts-small : (v : ℕ) (p : Purpose) (b : ℕ) → v ≤ greatestSpeed → p .reaction ≤ 145 → 1928500 ≤ b →
+    gradedParts v p b ≤ 547678936 * b
+unfolding gradedParts
+graded-parts-small v p b h k l =
+    let reacting = mul-le-mul (mul-le-mul h k) (le-refl b) in
+    omega (arith, reacting, mul-le-mul h h)
+
+-- ---- a required distance is at most 870 m
+level-at-most : (v : ℕ) (p : Purpose) → v ≤ greatestSpeed → p .reaction ≤ 145 → levelMetres v p ≤ 870
+unfolding levelMetres
+level-at-most v p h k =
+    omega (arith, level-parts-small v p h k, up-to-five-below (levelParts v p) metreParts (omega arith))
+
+graded-at-most : (v : ℕ) (p : Purpose) (g : ℤ) → v ≤ greatestSpeed → p .reaction ≤ 145 → GradeIn g → gradedMetres v p g ≤ 870
+unfolding gradedMetres
+graded-at-most v p g h k range =
+    let b = decelerationParts g in let low = deceleration-in g range .1 in
+    let parts = graded-parts-small v p b h k low in
+    let below = up-to-five-below (gradedParts v p b) (635000 * b) (omega arith) in
+    let less : upToFive (gradedParts v p b) (635000 * b) < 871 = lt-of-mul-lt-mul-right (635000 * b) (omega arith) in
+    omega arith
+
+pub metres-at-most : (v : ℕ) (p : Purpose) (g : ℤ) → v ≤ greatestSpeed → p .reaction ≤ 145 → GradeIn g → metresFor v p g ≤ 870
+unfolding metresFor
+metres-at-most v p g h k range =
+    either (p .braking && not (eqb (natAbs g) 0)) (graded-at-most v p g h k range) (level-at-most v p h k)
+
+pub required-at-most : (v p : ℕ) (g : ℤ) → AtMost 870 (requiredDistance v p g)
 unfolding requiredDistance
-required-at-most v p =
+required-at-most v p g =
     refuse-at-most (outside leastSpeed greatestSpeed v) _ _ _ (omega arith) (λ s.
     refuse-at-most (ltb lastPurpose p) _ _ _ (omega arith) (λ t.
-    let h = inside leastSpeed greatestSpeed v s in
-    let n = level-parts-small v (purposeRow p) (h .1) (reaction-small p) in
-    omega (arith, up-to-five-below (levelParts v (purposeRow p)) metreParts (omega arith))))
+    refuse-at-most (gradeOutside g) _ _ _ (omega arith) (λ u.
+    metres-at-most v (purposeRow p) g (inside leastSpeed greatestSpeed v s .1) (reaction-small p) (grade-inside g u))))
 
-pub distances-at-most : (v p : ℕ) → (distancesFor v p .stopping ≤ 725) × (distancesFor v p .decision ≤ 725)
+pub distances-at-most : (v p : ℕ) (g : ℤ) → (distancesFor v p g .stopping ≤ 870) × (distancesFor v p g .decision ≤ 870)
 unfolding distancesFor
-distances-at-most v p = (
-  value-at-most (requiredDistance v stoppingPurpose) (required-at-most v stoppingPurpose),
-  value-at-most (requiredDistance v p) (required-at-most v p),
+distances-at-most v p g = (
+  value-at-most (requiredDistance v stoppingPurpose g) (required-at-most v stoppingPurpose g),
+  value-at-most (requiredDistance v p g) (required-at-most v p g),
 )

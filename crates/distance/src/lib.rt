@@ -1,8 +1,10 @@
 // docs/RULES.md, "Distances a driver needs": the required sight distance.
 ghost use mathlib.Core.Path.{_≡_};
 ghost use Prim.Native.Nat.{_<_, _≤_, _*_};
+ghost use mathlib.Core.Bool.{false};
+ghost use Rattle.terms.specs.Answers.{gradeOutside};
 ghost use Rattle.terms.specs.Limits.{greatestSpeed};
-ghost use Rattle.distance.specs.Distance.{requiredDistance, distancesFor, levelParts, upToFive};
+ghost use Rattle.distance.specs.Distance.{requiredDistance, distancesFor, metresFor, levelMetres, gradedMetres, levelParts, decelerationParts, upToFive};
 use terms::Answer;
 
 // A purpose's reaction time in tenths of a second, and whether the braking term counts.
@@ -69,9 +71,47 @@ fn up_to_five(num: u64, den: u64) -> u64
     5 * ((num + (five - 1)) / five)
 }
 
-// The distance that a driver at `speed` km/h needs for a purpose: 0 stopping, 1 to 5 decision A to E.
-pub fn required_distance(speed: u32, purpose: u32) -> Answer
-    ensures { λ r. ⌜ r ≡ requiredDistance speed purpose ⌝ }
+// The distance on a level road, in metres.
+fn level_metres(speed: u64, row: Purpose) -> u64
+    requires { ⌜ (speed ≤ greatestSpeed) × (row .reaction ≤ 145) ⌝ }
+    ensures { λ r. ⌜ r ≡ levelMetres speed row ⌝ }
+{
+    up_to_five(level_parts(speed, row), METRE_PARTS)
+}
+
+// 3.4 / 9.81 + G, G being the grade as a fraction, in parts of which 9,810,000 make one.
+fn deceleration_parts(grade: i32) -> u64
+    requires { ⌜ gradeOutside grade ≡ false ⌝ }
+    ensures { λ r. ⌜ r ≡ decelerationParts grade ⌝ }
+{
+    (3400000 + 981 * grade as i64) as u64
+}
+
+// The distance on a grade, braking counted, in metres.
+fn graded_metres(speed: u64, row: Purpose, grade: i32) -> u64
+    requires { ⌜ (speed ≤ greatestSpeed) × (row .reaction ≤ 145) × (gradeOutside grade ≡ false) ⌝ }
+    ensures { λ r. ⌜ r ≡ gradedMetres speed row grade ⌝ }
+{
+    let b = deceleration_parts(grade);
+    let parts = 17653 * speed * row.reaction * b + 24525000000 * speed * speed;
+    up_to_five(parts, 635000 * b)
+}
+
+// The distance for a row of the table: the grade counts where braking does, and grade 0 keeps the level formula.
+fn metres_for(speed: u64, row: Purpose, grade: i32) -> u64
+    requires { ⌜ (speed ≤ greatestSpeed) × (row .reaction ≤ 145) × (gradeOutside grade ≡ false) ⌝ }
+    ensures { λ r. ⌜ r ≡ metresFor speed row grade ⌝ }
+{
+    if row.braking & (grade != 0) {
+        return graded_metres(speed, row, grade);
+    }
+    level_metres(speed, row)
+}
+
+// The distance that a driver at `speed` km/h needs for a purpose, 0 stopping, 1 to 5 decision A to E, on a grade in hundredths of a
+// percent, uphill positive.
+pub fn required_distance(speed: u32, purpose: u32, grade: i32) -> Answer
+    ensures { λ r. ⌜ r ≡ requiredDistance speed purpose grade ⌝ }
 {
     if terms::outside(terms::LEAST_SPEED, terms::GREATEST_SPEED, speed) {
         return Answer::Refused(terms::SPEED_REFUSED);
@@ -79,17 +119,19 @@ pub fn required_distance(speed: u32, purpose: u32) -> Answer
     if terms::LAST_PURPOSE < purpose {
         return Answer::Refused(terms::PURPOSE_REFUSED);
     }
+    if terms::grade_outside(grade) {
+        return Answer::Refused(terms::GRADE_REFUSED);
+    }
     let at = purpose as usize;
-    let parts = level_parts(speed as u64, PURPOSES[at]);
-    Answer::Number(up_to_five(parts, METRE_PARTS) as u32)
+    Answer::Number(metres_for(speed as u64, PURPOSES[at], grade) as u32)
 }
 
-// The distance to stop and the one to decide; 0 where it is refused.
-pub fn distances_for(speed: u32, purpose: u32) -> Distances
-    ensures { λ r. ⌜ r ≡ distancesFor speed purpose ⌝ }
+// The distance to stop and the one to decide on a grade; 0 where it is refused.
+pub fn distances_for(speed: u32, purpose: u32, grade: i32) -> Distances
+    ensures { λ r. ⌜ r ≡ distancesFor speed purpose grade ⌝ }
 {
-    let stopping = required_distance(speed, terms::STOPPING_PURPOSE);
-    let decision = required_distance(speed, purpose);
+    let stopping = required_distance(speed, terms::STOPPING_PURPOSE, grade);
+    let decision = required_distance(speed, purpose, grade);
     Distances {
         stopping: terms::value_or_zero(stopping),
         decision: terms::value_or_zero(decision),

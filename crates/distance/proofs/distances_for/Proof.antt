@@ -1,5 +1,6 @@
 -- `distances_for` meets its contract: both are what `required_distance` and `value_or_zero` ensure.
 use borrow.Author.Needs.{needs}
+use Rattle.whole.proofs.Machine.{plain}
 use Rattle.distance.specs.Distance.{distancesFor}
 use Rattle.distance.proofs.distances_for.Statement.{statement}
 use Rattle.distance.proofs.distances_for.Tie as tie
@@ -20,7 +21,13 @@ returns : tie.Need-returns
 unfolding distancesFor
 returns c =
     let stopping = c .before .before .before in
-    rw (c .value-or-zero2 .ensures, c .before .value-or-zero .ensures, c .before .before .required-distance2 .ensures, stopping .required-distance .ensures)
+    rw (
+      c .value-or-zero2 .ensures,
+      c .before .value-or-zero .ensures,
+      c .before .before .required-distance2 .ensures,
+      stopping .required-distance .ensures,
+      plain (stopping .before .fits .grade),
+    )
 
 pub distances-for-spec : {M : Type 1} → statement M
 distances-for-spec =

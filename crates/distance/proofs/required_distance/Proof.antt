@@ -1,14 +1,17 @@
 -- `required_distance` meets its contract: each `return` rewrites the definition by the tests that led to it.
-use mathlib.Core.Path.{ap, sym, _∙_}
-use Prim.Native.Nat.{ℕ, _≤_}
+use mathlib.Core.Path.{_≡_, ap, sym, _∙_}
+use mathlib.Core.Bool.{false}
+use Prim.Native.Nat.{_≤_}
 use borrow.Author.Needs.{needs}
 use borrow.Author.Tests.{lt-ltb, le-ltb}
 use native.Mathlib.Omega.{arith}
+use Rattle.whole.proofs.Machine.{plain}
+use Rattle.terms.specs.Answers.{outside, gradeOutside}
 use Rattle.terms.specs.Limits.{leastSpeed, greatestSpeed}
 use Rattle.terms.specs.declared.Answer.the-variants.{Number}
-use Rattle.terms.proofs.Laws.{not-outside-in}
-use Rattle.distance.specs.Distance.{requiredDistance, purposeRow, metreParts, upToFive}
-use Rattle.distance.proofs.Laws.{reaction-small, level-parts-small, up-to-five-below}
+use Rattle.terms.proofs.Laws.{not-outside-in, grade-in}
+use Rattle.distance.specs.Distance.{requiredDistance, purposeRow, metresFor}
+use Rattle.distance.proofs.Laws.{reaction-small, metres-at-most}
 use Rattle.distance.proofs.required_distance.Statement.{statement}
 use Rattle.distance.proofs.required_distance.Tie as tie
 
@@ -23,40 +26,65 @@ returns-2 : tie.Need-returns-2
 unfolding requiredDistance
 returns-2 c = simp (sym (c .before .before .outside .ensures) ∙ c .before .if1 .left, lt-ltb _ _ (c .if2 .taken))
 
-mul-level-parts : tie.Need-mul-level-parts
-mul-level-parts c = search needs
+grade-outside-requires : tie.Need-grade-outside-requires
+grade-outside-requires c κs = search needs
 
-array-copy-out-level-parts : tie.Need-array-copy-out-level-parts
-array-copy-out-level-parts c = search needs
-
--- past both tests the speed is in its range
-speed-small : (c : tie.Else2) → c .before .before .before .args .speed ≤ greatestSpeed
-speed-small c =
-    not-outside-in leastSpeed greatestSpeed (c .before .before .before .args .speed)
-    (sym (c .before .before .outside .ensures) ∙ c .before .if1 .left) .1
-
-level-parts-requires : tie.Need-level-parts-requires
-level-parts-requires c κs = (speed-small (c .before), reaction-small (c .before .before .before .before .args .purpose))
-
-parts-small : (c : tie.After-level-parts) → c .level-parts .result ≤ 122040100
-parts-small c =
-    let a = c .before .before .before .before .before .args in
-    omega (arith, c .level-parts .ensures, level-parts-small (a .speed) (purposeRow (a .purpose)) (speed-small (c .before .before)) (reaction-small (a .purpose)))
-
-up-to-five-requires : tie.Need-up-to-five-requires
-up-to-five-requires c κs = (omega arith, omega (arith, parts-small c), omega arith)
-
-cast-t19 : tie.Need-cast-t19
-cast-t19 c =
-    let num = c .before .level-parts .result in
-    record { fits = omega (arith, parts-small (c .before), c .up-to-five .ensures, up-to-five-below num metreParts (omega arith)) }
+-- what the test of the grade told
+grade-tested : (c : tie.After-grade-outside) → gradeOutside (c .before .before .before .before .args .grade) ≡ c .grade-outside .result
+grade-tested c = sym (c .grade-outside .ensures ∙ ap gradeOutside (plain (c .before .before .before .before .fits .grade)))
 
 returns-3 : tie.Need-returns-3
 unfolding requiredDistance
 returns-3 c =
-    let s = c .before .before .before in
-    simp (sym (s .before .before .outside .ensures) ∙ s .before .if1 .left, le-ltb _ _ (s .if2 .left))
-    (ap Number (c .up-to-five .ensures ∙ ap (λ (n : ℕ). upToFive n metreParts) (c .before .level-parts .ensures)))
+    let purpose = c .before .before in
+    simp (
+      sym (purpose .before .before .outside .ensures) ∙ purpose .before .if1 .left,
+      le-ltb _ _ (purpose .if2 .left),
+      grade-tested (c .before) ∙ c .if3 .taken,
+    )
+
+mul-metres-for : tie.Need-mul-metres-for
+mul-metres-for c = search needs
+
+array-copy-out-metres-for : tie.Need-array-copy-out-metres-for
+array-copy-out-metres-for c = search needs
+
+-- past all tests the speed and the grade are in their ranges
+module _ (c : tie.Else3) where
+  abbrev start : tie.Start
+  start = c .before .before .before .before .before
+
+  speed-passed : outside leastSpeed greatestSpeed (start .args .speed) ≡ false
+  speed-passed = let speed = c .before .before .before in sym (speed .before .outside .ensures) ∙ speed .if1 .left
+
+  grade-passed : gradeOutside (start .args .grade) ≡ false
+  grade-passed = grade-tested (c .before) ∙ c .if3 .left
+
+  speed-small : start .args .speed ≤ greatestSpeed
+  speed-small = not-outside-in leastSpeed greatestSpeed (start .args .speed) speed-passed .1
+
+metres-for-requires : tie.Need-metres-for-requires
+metres-for-requires c κs =
+    let past = c .before in
+    (speed-small past, reaction-small (start past .args .purpose), rw (plain (start past .fits .grade)) (grade-passed past))
+
+-- the metres are the definition's
+metres-are : (c : tie.After-metres-for) → let a = start (c .before .before) .args in c .metres-for .result ≡ metresFor (a .speed) (purposeRow (a .purpose)) (a .grade)
+metres-are c =
+    let s = start (c .before .before) in
+    c .metres-for .ensures ∙ ap (metresFor (s .args .speed) (purposeRow (s .args .purpose))) (plain (s .fits .grade))
+
+cast-t21 : tie.Need-cast-t21
+cast-t21 c =
+    let past = c .before .before in let a = start past .args in
+    let small = metres-at-most (a .speed) (purposeRow (a .purpose)) (a .grade) (speed-small past) (reaction-small (a .purpose)) (grade-in _ (grade-passed past)) in
+    record { fits = omega (arith, metres-are c, small) }
+
+returns-4 : tie.Need-returns-4
+unfolding requiredDistance
+returns-4 c =
+    let past = c .before .before in
+    simp (speed-passed past, le-ltb _ _ (past .before .before .if2 .left), grade-passed past) (ap Number (metres-are c))
 
 pub required-distance-spec : {M : Type 1} → statement M
 required-distance-spec =
@@ -65,9 +93,10 @@ required-distance-spec =
     outside-requires
     returns
     returns-2
-    mul-level-parts
-    array-copy-out-level-parts
-    level-parts-requires
-    up-to-five-requires
-    cast-t19
-    returns-3)
+    grade-outside-requires
+    returns-3
+    mul-metres-for
+    array-copy-out-metres-for
+    metres-for-requires
+    cast-t21
+    returns-4)
