@@ -1,0 +1,31 @@
+-- `road_distances` meets its contract: the distances for the road's own numbers and its grade.
+use mathlib.Core.Path.{ap, _∙_}
+use mir.Syntax.{w32}
+use borrow.Author.Needs.{needs}
+use Rattle.whole.proofs.Machine.{got}
+use Rattle.distance.specs.Distance.{distancesFor}
+use Rattle.road_distances.specs.RoadDistances.{roadDistances}
+use Rattle.road_distances.proofs.road_distances.Statement.{statement}
+use Rattle.road_distances.proofs.road_distances.Tie as tie
+
+cast-distances-for : tie.Need-cast-distances-for
+cast-distances-for c = search needs
+
+cast-distances-for-2 : tie.Need-cast-distances-for-2
+cast-distances-for-2 c = search needs
+
+road-grade-requires : tie.Need-road-grade-requires
+road-grade-requires c κs = search needs
+
+distances-for-requires : tie.Need-distances-for-requires
+distances-for-requires c κs = search needs
+
+returns : tie.Need-returns
+unfolding roadDistances
+returns c =
+    let grade = c .before .road-grade in let r = c .before .before .before .before .args .road in
+    c .distances-for .ensures ∙ ap (distancesFor (r .speed) (r .purpose)) (got w32 _ (grade .ok) ∙ grade .ensures)
+
+pub road-distances-spec : {M : Type 1} → statement M
+road-distances-spec =
+    tie.close (tie.spec cast-distances-for cast-distances-for-2 road-grade-requires distances-for-requires returns)
