@@ -45,16 +45,16 @@ markOf heights d i =
     (not stoppingJudged)
     (not decisionJudged)
 
--- the mark of station i for a speed and a purpose
-abbrev pub markFor : ℕ → ℕ → List ℤ → ℕ → ℕ
-markFor speed purpose heights i = markOf heights (distancesFor speed purpose) i
+-- the mark of station i for a speed, a purpose and a grade
+abbrev pub markFor : ℕ → ℕ → ℤ → List ℤ → ℕ → ℕ
+markFor speed purpose grade heights i = markOf heights (distancesFor speed purpose grade) i
 
--- marks from a speed, a decision purpose and heights: refused 6, 7, 19, then 14; else how many bytes are written
-unfoldable pub marksAnswer : ℕ → ℕ → List ℤ → List ℕ → Answer
-marksAnswer speed purpose heights marks =
-    let n = length heights in unless (marksVerdict speed purpose n) (roomFor n marks)
+-- marks from a speed, a decision purpose, a grade and heights: refused 6, 7, 10, 19, then 14; else how many bytes are written
+unfoldable pub marksAnswer : ℕ → ℕ → ℤ → List ℤ → List ℕ → Answer
+marksAnswer speed purpose grade heights marks =
+    let n = length heights in unless (marksVerdict speed purpose grade n) (roomFor n marks)
 
 -- each station's byte is its mark, bytes beyond stay; where it is refused all stay
-unfoldable pub marksList : ℕ → ℕ → List ℤ → List ℕ → List ℕ
-marksList speed purpose heights marks =
-    written (markFor speed purpose heights) (marksAnswer speed purpose heights marks) marks
+unfoldable pub marksList : ℕ → ℕ → ℤ → List ℤ → List ℕ → List ℕ
+marksList speed purpose grade heights marks =
+    written (markFor speed purpose grade heights) (marksAnswer speed purpose grade heights marks) marks

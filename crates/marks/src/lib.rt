@@ -77,19 +77,19 @@ fn fill_marks(heights: &[i32], d: Distances, first: usize, count: usize, list: &
     }
 }
 
-// Marks, from a speed, a decision purpose and heights.
-pub fn marks(speed: u32, purpose: u32, heights: &[i32], list: &mut [u8]) -> Answer
-    ensures answer { λ r. ⌜ r ≡ marksAnswer speed purpose (now (heights .entry)) (now (list .entry)) ⌝ }
-    ensures list { λ _. ⌜ now (list .exit) ≡ marksList speed purpose (now (heights .entry)) (now (list .entry)) ⌝ }
+// Marks, from a speed, a decision purpose, a grade and heights.
+pub fn marks(speed: u32, purpose: u32, grade: i32, heights: &[i32], list: &mut [u8]) -> Answer
+    ensures answer { λ r. ⌜ r ≡ marksAnswer speed purpose grade (now (heights .entry)) (now (list .entry)) ⌝ }
+    ensures list { λ _. ⌜ now (list .exit) ≡ marksList speed purpose grade (now (heights .entry)) (now (list .entry)) ⌝ }
 {
     let stations = heights.len();
-    if let Verdict::Fault(number) = verdicts::marks_verdict(speed, purpose, stations) {
+    if let Verdict::Fault(number) = verdicts::marks_verdict(speed, purpose, grade, stations) {
         return Answer::Refused(number);
     }
     if list.len() < stations {
         return Answer::Refused(terms::ROOM_REFUSED);
     }
-    let needed = distance::distances_for(speed, purpose);
+    let needed = distance::distances_for(speed, purpose, grade);
     fill_marks(heights, needed, 0, stations, list);
     Answer::Number(stations as u32)
 }

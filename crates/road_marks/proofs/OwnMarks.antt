@@ -10,6 +10,8 @@ use Rattle.verdicts.proofs.Laws.{MarksInRange, marks-accepted}
 use Rattle.road.specs.declared.Road.{Road}
 use Rattle.road.specs.Road.{roadVerdict}
 use Rattle.road.proofs.Accepted.{accepted-road}
+use Rattle.road_distances.specs.RoadDistances.{roadGrade, roadDistances}
+use Rattle.road_distances.proofs.Laws.{road-grade-in}
 use Rattle.heights.specs.Heights.{ownHeights}
 use Rattle.heights.proofs.Filled.{own-length}
 use Rattle.marks.specs.Marks.{marksAnswer, marksList}
@@ -20,20 +22,21 @@ module _ (r : Road) (accepted : roadVerdict r ≡ Accepted) where
   pub marked-length : r .length ≤ greatestMarkedRoad
   marked-length = accepted-road r accepted .length-high
 
-  in-range : MarksInRange (r .speed) (r .purpose) (r .length + 1)
+  in-range : MarksInRange (r .speed) (r .purpose) (roadGrade r) (r .length + 1)
   in-range =
       let s = accepted-road r accepted in
       record {
         speed-in = (s .speed-low, s .speed-high);
         purpose-in = (s .purpose-low, s .purpose-high);
+        grade-in = road-grade-in r accepted;
         stations = omega (arith, s .length-high);
       }
 
   module _ (marks : List ℕ) where
-    pub own-answer : marksAnswer (r .speed) (r .purpose) (ownHeights r) marks ≡ markRoadAnswer r marks
+    pub own-answer : marksAnswer (r .speed) (r .purpose) (roadGrade r) (ownHeights r) marks ≡ markRoadAnswer r marks
     unfolding marksAnswer markRoadAnswer
-    own-answer = rw (own-length r, accepted, marks-accepted (r .speed) (r .purpose) (r .length + 1) in-range)
+    own-answer = rw (own-length r, accepted, marks-accepted (r .speed) (r .purpose) (roadGrade r) (r .length + 1) in-range)
 
-    pub own-list : marksList (r .speed) (r .purpose) (ownHeights r) marks ≡ markRoadList r marks
-    unfolding marksList markRoadList
+    pub own-list : marksList (r .speed) (r .purpose) (roadGrade r) (ownHeights r) marks ≡ markRoadList r marks
+    unfolding marksList markRoadList roadDistances
     own-list = rw own-answer

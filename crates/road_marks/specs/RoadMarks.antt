@@ -8,11 +8,12 @@ use Rattle.road.specs.Road.{roadVerdict}
 use Rattle.heights.specs.Heights.{ownHeights}
 use Rattle.file.specs.File.{roadIn}
 use Rattle.file.specs.Reading.{readVerdict}
-use Rattle.marks.specs.Marks.{markFor}
+use Rattle.road_distances.specs.RoadDistances.{roadDistances}
+use Rattle.marks.specs.Marks.{markOf}
 
--- the mark of station i of a road: of its own heights, for its own speed and purpose
+-- the mark of station i of a road: of its own heights, for the distances that it needs
 abbrev pub roadMark : Road → ℕ → ℕ
-roadMark r i = markFor (r .speed) (r .purpose) (ownHeights r) i
+roadMark r i = markOf (ownHeights r) (roadDistances r) i
 
 -- marking a road as a value: refused as the road is, then 14; else the number of stations, N + 1
 unfoldable pub markRoadAnswer : Road → List ℕ → Answer

@@ -5,7 +5,7 @@ use road::Road;
 use terms::Answer;
 use terms::Verdict;
 
-// Marks a road by its own heights, speed and purpose.
+// Marks a road by its own heights, speed, purpose and grade.
 pub fn mark_road(road: Road, list: &mut [u8]) -> Answer
     ensures answer { λ r. ⌜ r ≡ markRoadAnswer road (now (list .entry)) ⌝ }
     ensures list { λ _. ⌜ now (list .exit) ≡ markRoadList road (now (list .entry)) ⌝ }
@@ -19,6 +19,7 @@ pub fn mark_road(road: Road, list: &mut [u8]) -> Answer
     marks::marks(
         road.speed as u32,
         road.purpose as u32,
+        road_distances::road_grade(road),
         &heights[..stations],
         list,
     )

@@ -4,11 +4,12 @@ use mathlib.Core.Path.{_≡_}
 use native.Mathlib.Omega.{arith}
 use borrow.Author.Tests.{lt-leb}
 use lib.Dec.{leb, nleb→lt}
+use lib.IntN.{ℤ}
 use mir.Facts.{or-no}
-use Rattle.terms.specs.Answers.{outside, listOutside, eyeOrObjectOutside}
+use Rattle.terms.specs.Answers.{outside, gradeOutside, listOutside, eyeOrObjectOutside}
 use Rattle.terms.specs.Limits.{leastSpeed, greatestSpeed, firstDecision, lastPurpose, greatestHeight, greatestList, greatestFarthest}
 use Rattle.terms.specs.declared.Verdict.the-variants.{Accepted}
-use Rattle.terms.proofs.Laws.{fault-accepted, inside, not-outside, heights-not-outside}
+use Rattle.terms.proofs.Laws.{GradeIn, fault-accepted, inside, not-outside, heights-not-outside, grade-inside, grade-not-outside}
 use Rattle.verdicts.specs.Verdicts.{lookVerdict, sightVerdict, profileVerdict, marksVerdict}
 
 -- ---- a look from an eye to an object
@@ -61,28 +62,32 @@ module _ (n i e o far : ℕ) where
   sight-accepted on l r = rw (not-outside 1 greatestList n (omega arith, l), lt-leb n i on, look-accepted e o far r)
 
 -- marks
-pub record MarksInRange (speed purpose n : ℕ) : Type 0 where
+pub record MarksInRange (speed purpose : ℕ) (grade : ℤ) (n : ℕ) : Type 0 where
   pub speed-in : (leastSpeed ≤ speed) × (speed ≤ greatestSpeed)
   pub purpose-in : (firstDecision ≤ purpose) × (purpose ≤ lastPurpose)
+  pub grade-in : GradeIn grade
   pub stations : (1 ≤ n) × (n ≤ greatestList)
 
-module _ (speed purpose n : ℕ) where
-  pub marks-in-range : marksVerdict speed purpose n ≡ Accepted → MarksInRange speed purpose n
+module _ (speed purpose : ℕ) (grade : ℤ) (n : ℕ) where
+  pub marks-in-range : marksVerdict speed purpose grade n ≡ Accepted → MarksInRange speed purpose grade n
   unfolding marksVerdict
   marks-in-range a =
       let fast = fault-accepted (outside leastSpeed greatestSpeed speed) _ _ a in
       let known = fault-accepted (outside firstDecision lastPurpose purpose) _ _ (fast .1) in
+      let sloped = fault-accepted (gradeOutside grade) _ _ (known .1) in
       record {
         speed-in = inside leastSpeed greatestSpeed speed (fast .0);
         purpose-in = inside firstDecision lastPurpose purpose (known .0);
-        stations = inside 1 greatestList n (fault-accepted (listOutside n) _ _ (known .1) .0);
+        grade-in = grade-inside grade (sloped .0);
+        stations = inside 1 greatestList n (fault-accepted (listOutside n) _ _ (sloped .1) .0);
       }
 
-  pub marks-accepted : MarksInRange speed purpose n → marksVerdict speed purpose n ≡ Accepted
+  pub marks-accepted : MarksInRange speed purpose grade n → marksVerdict speed purpose grade n ≡ Accepted
   unfolding marksVerdict
   marks-accepted r =
       rw (
         not-outside leastSpeed greatestSpeed speed (r .speed-in),
         not-outside firstDecision lastPurpose purpose (r .purpose-in),
+        grade-not-outside grade (r .grade-in),
         not-outside 1 greatestList n (r .stations),
       )

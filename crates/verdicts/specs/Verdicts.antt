@@ -2,9 +2,10 @@
 -- n is the number of heights. Where such an operation fills a list, 14 comes behind these.
 use Prim.Native.Nat.{ℕ}
 use lib.Dec.{leb}
-use Rattle.terms.specs.Answers.{outside, listOutside, eyeOrObjectOutside, fault}
+use lib.IntN.{ℤ}
+use Rattle.terms.specs.Answers.{outside, gradeOutside, listOutside, eyeOrObjectOutside, fault}
 use Rattle.terms.specs.Limits.{leastSpeed, greatestSpeed, firstDecision, lastPurpose, greatestFarthest}
-use Rattle.terms.specs.Refusals.{speedRefused, purposeRefused, heightRefused, listRefused, stationRefused, farthestRefused}
+use Rattle.terms.specs.Refusals.{speedRefused, purposeRefused, gradeRefused, heightRefused, listRefused, stationRefused, farthestRefused}
 use Rattle.terms.specs.declared.Verdict.{Verdict}
 use Rattle.terms.specs.declared.Verdict.the-variants.{Accepted}
 
@@ -25,9 +26,10 @@ sightVerdict n i e o far =
 unfoldable pub profileVerdict : ℕ → ℕ → ℕ → ℕ → Verdict
 profileVerdict n e o far = fault (listOutside n) listRefused (lookVerdict e o far)
 
--- marks: 6, 7, 19
-unfoldable pub marksVerdict : ℕ → ℕ → ℕ → Verdict
-marksVerdict speed purpose n =
+-- marks: 6, 7, 10, 19
+unfoldable pub marksVerdict : ℕ → ℕ → ℤ → ℕ → Verdict
+marksVerdict speed purpose grade n =
     fault (outside leastSpeed greatestSpeed speed) speedRefused
     (fault (outside firstDecision lastPurpose purpose) purposeRefused
-    (fault (listOutside n) listRefused Accepted))
+    (fault (gradeOutside grade) gradeRefused
+    (fault (listOutside n) listRefused Accepted)))

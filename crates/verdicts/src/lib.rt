@@ -41,14 +41,17 @@ pub fn profile_verdict(heights: usize, eye: u32, object: u32, farthest: u32) -> 
 }
 
 // Marks, but for the room in their list.
-pub fn marks_verdict(speed: u32, purpose: u32, heights: usize) -> Verdict
-    ensures { λ r. ⌜ r ≡ marksVerdict speed purpose heights ⌝ }
+pub fn marks_verdict(speed: u32, purpose: u32, grade: i32, heights: usize) -> Verdict
+    ensures { λ r. ⌜ r ≡ marksVerdict speed purpose grade heights ⌝ }
 {
     if terms::outside(terms::LEAST_SPEED, terms::GREATEST_SPEED, speed) {
         return Verdict::Fault(terms::SPEED_REFUSED);
     }
     if terms::outside(terms::FIRST_DECISION, terms::LAST_PURPOSE, purpose) {
         return Verdict::Fault(terms::PURPOSE_REFUSED);
+    }
+    if terms::grade_outside(grade) {
+        return Verdict::Fault(terms::GRADE_REFUSED);
     }
     if terms::list_outside(heights) {
         return Verdict::Fault(terms::LIST_REFUSED);

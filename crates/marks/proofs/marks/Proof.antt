@@ -1,9 +1,10 @@
 -- `marks::marks` meets its contract: each return is one of the three ways in which such an operation ends.
-use mathlib.Core.Path.{_≡_, sym, _∙_}
+use mathlib.Core.Path.{_≡_, sym, ap, _∙_}
 use Prim.Native.Nat.{_≤_}
 use native.Mathlib.Omega.{arith}
 use borrow.Author.Needs.{needs}
 use lib.ListN.{length}
+use Rattle.whole.proofs.Machine.{plain}
 use Rattle.terms.specs.Limits.{greatestList}
 use Rattle.terms.specs.declared.Verdict.the-variants.{Accepted}
 use Rattle.terms.proofs.Laws.{ends-fault, ends-no-room, ends-filled}
@@ -16,13 +17,21 @@ use Rattle.marks.specs.Marks.{markFor, marksAnswer, marksList}
 use Rattle.marks.proofs.marks.Statement.{statement}
 use Rattle.marks.proofs.marks.Tie as tie
 
--- the verdict, where it is no fault
-accepted : (c : tie.After-enum-told) → let a = c .before .before .before .before .args in
-    marksVerdict (a .speed) (a .purpose) (length (a .heights .now)) ≡ Accepted
-accepted c = sym (c .before .before .marks-verdict .ensures) ∙ c .enum-told .given .1
+-- the verdict is that of what was handed over
+module _ (c : tie.After-marks-verdict) where
+  abbrev start : tie.Start
+  start = c .before .before
 
-list-small : (c : tie.After-enum-told) → length (c .before .before .before .before .args .heights .now) ≤ greatestList
-list-small c = marks-in-range _ _ _ (accepted c) .stations .1
+  verdict-is : let a = start .args in c .marks-verdict .result ≡ marksVerdict (a .speed) (a .purpose) (a .grade) (length (a .heights .now))
+  verdict-is = rw (plain (start .fits .grade)) at (c .marks-verdict .ensures)
+
+-- the verdict, where it is no fault
+accepted : (c : tie.After-enum-told) → let a = start (c .before .before) .args in
+    marksVerdict (a .speed) (a .purpose) (a .grade) (length (a .heights .now)) ≡ Accepted
+accepted c = sym (verdict-is (c .before .before)) ∙ c .enum-told .given .1
+
+list-small : (c : tie.After-enum-told) → length (start (c .before .before) .args .heights .now) ≤ greatestList
+list-small c = marks-in-range _ _ _ _ (accepted c) .stations .1
 
 marks-verdict-requires : tie.Need-marks-verdict-requires
 marks-verdict-requires c κs = search needs
@@ -34,28 +43,35 @@ returns : tie.Need-returns
 unfolding marksAnswer marksList
 returns c =
     let v = c .before .before .before in
-    ends-fault (markFor _ _ _) _ _ _ (sym (v .marks-verdict .ensures) ∙ c .before .number .given .1)
+    ends-fault (markFor _ _ _ _) _ _ _ (sym (verdict-is v) ∙ c .before .number .given .1)
 
 enum-told : tie.Need-enum-told
 enum-told c = search needs
 
 returns-2 : tie.Need-returns-2
 unfolding marksAnswer marksList
-returns-2 c = ends-no-room (markFor _ _ _) _ _ _ (accepted (c .before)) (c .if1 .taken)
+returns-2 c = ends-no-room (markFor _ _ _ _) _ _ _ (accepted (c .before)) (c .if1 .taken)
 
 distances-for-requires : tie.Need-distances-for-requires
 distances-for-requires c κs = search needs
 
+-- and so are the distances
+needed-are : (c : tie.After-distances-for) → let a = start (c .before .before .before .before) .args in
+    c .distances-for .result ≡ distancesFor (a .speed) (a .purpose) (a .grade)
+needed-are c =
+    let s = start (c .before .before .before .before) in
+    c .distances-for .ensures ∙ ap (distancesFor (s .args .speed) (s .args .purpose)) (plain (s .fits .grade))
+
 fill-marks-requires : tie.Need-fill-marks-requires
 fill-marks-requires c κs =
-    let t = c .before .before .before in let a = t .before .before .before .before .args in
-    let metres = distances-at-most (a .speed) (a .purpose) in
-    let able : Markable (a .heights .now) (distancesFor (a .speed) (a .purpose)) =
+    let t = c .before .before .before in let a = start (t .before .before) .args in
+    let metres = distances-at-most (a .speed) (a .purpose) (a .grade) in
+    let able : Markable (a .heights .now) (distancesFor (a .speed) (a .purpose) (a .grade)) =
     record { short = list-small t; stopping = omega arith; decision = omega arith } in
-    (rw (c .before .distances-for .ensures) able, omega arith, omega arith)
+    (rw (needed-are (c .before)) able, omega arith, omega arith)
 
-cast-t14 : tie.Need-cast-t14
-cast-t14 c = record { fits = omega (arith, list-small (c .before .before .before .before .before .before)) }
+cast-t15 : tie.Need-cast-t15
+cast-t15 c = record { fits = omega (arith, list-small (c .before .before .before .before .before .before)) }
 
 same-length : tie.Need-same-length
 same-length c = search needs
@@ -64,7 +80,7 @@ returns-3 : tie.Need-returns-3
 unfolding marksAnswer marksList
 returns-3 c =
     let f = c .before .before in let d = f .before .before in let room = d .before in
-    ends-filled _ _ _ _ _ (accepted (room .before)) (room .if1 .left) (rw (d .distances-for .ensures) at (f .fill-marks .ensures))
+    ends-filled _ _ _ _ _ (accepted (room .before)) (room .if1 .left) (rw (needed-are d) at (f .fill-marks .ensures))
 
 pub marks-spec : {M : Type 1} → statement M
 marks-spec =
@@ -77,6 +93,6 @@ marks-spec =
     returns-2
     distances-for-requires
     fill-marks-requires
-    cast-t14
+    cast-t15
     same-length
     returns-3)

@@ -6,6 +6,8 @@ use borrow.Author.Needs.{needs}
 use native.Mathlib.Omega.{arith}
 use lib.ListN.{length, take}
 use lib.Seq.{length-take-le}
+use mir.Syntax.{w32}
+use Rattle.whole.proofs.Machine.{got}
 use Rattle.terms.specs.declared.Verdict.the-variants.{Accepted}
 use Rattle.terms.proofs.Laws.{ends-fault}
 use Rattle.road.specs.Road.{roadVerdict}
@@ -63,11 +65,14 @@ cast-marks c = search needs
 cast-marks-2 : tie.Need-cast-marks-2
 cast-marks-2 c = search needs
 
+road-grade-requires : tie.Need-road-grade-requires
+road-grade-requires c κs = search needs
+
 array-share-prefix-heights : tie.Need-array-share-prefix-heights
-array-share-prefix-heights c = room (c .before .before .before .before)
+array-share-prefix-heights c = room (c .before .before .before .before .before)
 
 slice-aggregate-marks : tie.Need-slice-aggregate-marks
-slice-aggregate-marks c = sym (length-take-le _ _ (room (c .before .before .before .before .before)))
+slice-aggregate-marks c = sym (length-take-le _ _ (room (c .before .before .before .before .before .before)))
 
 marks-requires : tie.Need-marks-requires
 marks-requires c κs = search needs
@@ -77,9 +82,11 @@ same-length c = search needs
 
 returns-2 : tie.Need-returns-2
 returns-2 c =
-    let m = c .before .before in let h = m .before .before .before .before .before .before .before in
-    let ok = accepted h in
-    (m .marks .ensures .0 ∙ rw (front h) (own-answer _ ok _), m .marks .ensures .1 ∙ rw (front h) (own-list _ ok _))
+    let m = c .before .before in let g = m .before .before .before in let h = g .before .before .before .before .before in
+    let ok = accepted h in let grade = got w32 _ (g .road-grade .ok) ∙ g .road-grade .ensures in (
+      m .marks .ensures .0 ∙ rw (grade, front h) (own-answer _ ok _),
+      m .marks .ensures .1 ∙ rw (grade, front h) (own-list _ ok _),
+    )
 
 pub mark-road-spec : {M : Type 1} → statement M
 mark-road-spec =
@@ -95,6 +102,7 @@ mark-road-spec =
     add-stations
     cast-marks
     cast-marks-2
+    road-grade-requires
     array-share-prefix-heights
     slice-aggregate-marks
     marks-requires
