@@ -2,7 +2,7 @@
 use mathlib.Core.Path.{refl}
 use Rattle.whole.specs.Fill.{filled}
 use Rattle.whole.specs.Floor.{floorDiv}
-use Rattle.distance.specs.Distance.{requiredDistance, levelParts, upToFive}
+use Rattle.distance.specs.Distance.{requiredDistance, metresFor, levelMetres, gradedMetres, levelParts, gradedParts, upToFive}
 use Rattle.crest.specs.Crest.{crestLength, leastEven, adequate, withinRoot}
 use Rattle.road.specs.Road.{roadVerdict, numbersVerdict, curvesVerdict, curveVerdict}
 use Rattle.heights.specs.Profile.{storedHeight, exactHeight, exactFrom}
@@ -13,9 +13,9 @@ use Rattle.sight.specs.Operations.{sightAnswer}
 use Rattle.cases.specs.Cases.{StarredCases, curve, crestRoad, heightAt}
 
 pub starred-cases : StarredCases
-unfolding requiredDistance levelParts upToFive crestLength leastEven adequate withinRoot roadVerdict numbersVerdict curvesVerdict curveVerdict heightAt ownHeights heightsList heightsAnswer filled storedHeight exactHeight exactFrom floorDiv crestRoad curve sightVerdict lookVerdict sightAnswer availableSight sightFrom reach seen everyBetween every clears
+unfolding requiredDistance metresFor levelMetres gradedMetres levelParts gradedParts upToFive crestLength leastEven adequate withinRoot roadVerdict numbersVerdict curvesVerdict curveVerdict heightAt ownHeights heightsList heightsAnswer filled storedHeight exactHeight exactFrom floorDiv crestRoad curve sightVerdict lookVerdict sightAnswer availableSight sightFrom reach seen everyBetween every clears
 starred-cases = record {
-  distances = (refl, refl, refl, refl, refl);
+  distances = (refl, refl, refl, refl, refl, refl);
   crests = (refl, refl, refl, refl);
   heights = (refl, refl, refl, refl, refl, refl);
   sights = (refl, refl, refl);

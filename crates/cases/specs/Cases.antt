@@ -39,11 +39,12 @@ heightAt l x = getD (ownHeights (crestRoad l)) x (negℤ (pos 1))
 pub record StarredCases : Type 0 where
   -- Distances a driver needs: the 129.01 m before rounding in hundredths of a metre, rounded down
   pub distances :
-      (requiredDistance 80 stoppingPurpose ≡ Number 130)
+      (requiredDistance 80 stoppingPurpose (pos 0) ≡ Number 130)
       × (100 * levelParts 80 (purposeRow stoppingPurpose) / metreParts ≡ 12901)
-      × (requiredDistance 100 stoppingPurpose ≡ Number 185)
-      × (requiredDistance 20 1 ≡ Number 25)
-      × (requiredDistance 130 5 ≡ Number 525)
+      × (requiredDistance 100 stoppingPurpose (pos 0) ≡ Number 185)
+      × (requiredDistance 20 1 (pos 0) ≡ Number 25)
+      × (requiredDistance 130 5 (pos 0) ≡ Number 525)
+      × (requiredDistance 90 stoppingPurpose (negℤ (pos 600)) ≡ Number 175)
   -- How long a crest must be: e = 10,800 and o = 6,000
   pub crests :
       (crestLength 600 130 eyeHeight objectHeight ≡ Number 156)

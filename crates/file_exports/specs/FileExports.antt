@@ -1,10 +1,12 @@
--- What the exported functions over a road file answer and leave in the lent list: as the operation on the file's road does,
+-- What the exported functions over a road file answer and leave in a lent list: as the operation on the file's road does,
 -- unless the file is refused.
 use Prim.Native.Nat.{ℕ}
 use mathlib.Core.List.{List}
-use lib.IntN.{ℤ}
+use lib.IntN.{ℤ, natAbs}
 use Rattle.terms.specs.Answers.{unless, keptUnless}
 use Rattle.terms.specs.declared.Answer.{Answer}
+use Rattle.terms.specs.declared.Answer.the-variants.{Number}
+use Rattle.road_distances.specs.RoadDistances.{roadGrade}
 use Rattle.heights.specs.Heights.{heightsAnswer, heightsList}
 use Rattle.file.specs.File.{roadIn}
 use Rattle.file.specs.Reading.{readVerdict}
@@ -23,3 +25,7 @@ fileHeightsAnswer file list = unless (readVerdict file) (heightsAnswer (roadIn f
 
 unfoldable pub fileHeightsList : List ℕ → List ℤ → List ℤ
 fileHeightsList file list = keptUnless (readVerdict file) (heightsList (roadIn file) list) list
+
+-- a file read and how steeply its road falls: the size of the grade that it is marked with, which is never positive
+unfoldable pub fileDescent : List ℕ → Answer
+fileDescent file = unless (readVerdict file) (Number (natAbs (roadGrade (roadIn file))))

@@ -13,11 +13,12 @@ use Rattle.terms.specs.Limits.{greatestMarkedRoad}
 use Rattle.terms.specs.declared.Verdict.{Verdict}
 use Rattle.terms.specs.declared.Verdict.the-variants.{Accepted, Fault}
 use Rattle.terms.proofs.Laws.{written-length}
-use Rattle.distance.specs.Distance.{distancesFor}
-use Rattle.distance.proofs.Laws.{distances-at-most}
+use Rattle.distance.specs.declared.Distances.{Distances}
 use Rattle.road.specs.declared.Road.{Road}
 use Rattle.road.specs.Road.{roadVerdict}
 use Rattle.road.proofs.Accepted.{accepted-road}
+use Rattle.road_distances.specs.RoadDistances.{roadDistances}
+use Rattle.road_distances.proofs.Laws.{road-distances-at-most}
 use Rattle.file.specs.File.{letters, roadIn, version}
 use Rattle.file.specs.Reading.{readRoad, readVerdict}
 use Rattle.file.proofs.Sound.{accepted-file, read-by}
@@ -64,9 +65,8 @@ line-at-most : (word numbers : List ℕ) (m : ℕ) → ((k : ℕ) → length (it
 unfolding line
 line-at-most word numbers m h = simp length-append (omega (arith, joined-at-most (λ k. item (getD numbers k 0)) m (length numbers) h))
 
-first-at-most : (speed purpose : ℕ) → speed < 1000 → length (firstLine speed purpose) ≤ 22
-first-at-most speed purpose h =
-    let d = distancesFor speed purpose in let small = distances-at-most speed purpose in
+first-at-most : (speed : ℕ) (d : Distances) → speed < 1000 → (d .stopping < 1000) × (d .decision < 1000) → length (firstLine speed d) ≤ 22
+first-at-most speed d h small =
     let numbers = version ∷ speed ∷ d .stopping ∷ d .decision ∷ [] in
     let each : (k : ℕ) → length (item (getD numbers k 0)) ≤ 4 =
     λ k. small-item-at-most (getD numbers k 0) (each-at (λ (x : ℕ). x < 1000) numbers k 0 (omega arith) (λ _. omega arith)) in
@@ -102,7 +102,8 @@ unfolding roadText
 road-at-most r accepted =
     let stations : length (ownMarks r) ≤ greatestMarkedRoad + 1 = omega (arith, own-marks-length r, marked-length r accepted) in
     let zones = joined-at-most (bitLines (ownMarks r)) (14 * mostZones) (length bitLetters) (bit-at-most (ownMarks r) stations) in
-    simp length-append (omega (arith, first-at-most (r .speed) (r .purpose) (omega (arith, accepted-road r accepted .speed-high))))
+    let small = road-distances-at-most r in
+    simp length-append (omega (arith, first-at-most (r .speed) (roadDistances r) (omega (arith, accepted-road r accepted .speed-high)) (omega arith)))
 
 pub listing-at-most : HoldsListings greatestListing
 unfolding listing

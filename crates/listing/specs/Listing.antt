@@ -9,8 +9,9 @@ use Rattle.terms.specs.Answers.{roomFor, written}
 use Rattle.terms.specs.declared.Answer.{Answer}
 use Rattle.terms.specs.declared.Verdict.{Verdict}
 use Rattle.terms.specs.declared.Verdict.the-variants.{Accepted, Fault}
-use Rattle.distance.specs.Distance.{distancesFor}
+use Rattle.distance.specs.declared.Distances.{Distances}
 use Rattle.road.specs.declared.Road.{Road}
+use Rattle.road_distances.specs.RoadDistances.{roadDistances}
 use Rattle.file.specs.declared.ReadRoad.{ReadRoad}
 use Rattle.file.specs.File.{letters, version}
 use Rattle.file.specs.Reading.{readRoad}
@@ -51,9 +52,8 @@ abbrev pub refusedLine : ℕ → List ℕ
 refusedLine k = line refusedWord (k ∷ [])
 
 -- VCP, version, speed, stopping and decision distance
-abbrev pub firstLine : ℕ → ℕ → List ℕ
-firstLine speed purpose =
-    let d = distancesFor speed purpose in line letters (version ∷ speed ∷ d .stopping ∷ d .decision ∷ [])
+abbrev pub firstLine : ℕ → Distances → List ℕ
+firstLine speed d = line letters (version ∷ speed ∷ d .stopping ∷ d .decision ∷ [])
 
 -- a zone: its letter, its first and its last station
 abbrev pub zoneLine : ℕ → ℕ → ℕ → List ℕ
@@ -83,7 +83,7 @@ ownMarks r = markRoadList r (replicate (r .length + 1) 0)
 
 -- the first line, and the zones of its marks
 unfoldable pub roadText : Road → List ℕ
-roadText r = firstLine (r .speed) (r .purpose) ++ zonesText (ownMarks r)
+roadText r = firstLine (r .speed) (roadDistances r) ++ zonesText (ownMarks r)
 
 -- by reading's verdict: the road's text, or the line of the refusal
 abbrev pub textFor : Verdict → Road → List ℕ

@@ -6,11 +6,17 @@ ghost use Rattle.marks.specs.Marks.{marksAnswer, marksList};
 ghost use Rattle.zones.specs.Zones.{zonesAnswer, zonesList};
 
 #[no_mangle]
-pub extern "C" fn vcp_marks(speed: u32, purpose: u32, heights: &[i32], list: &mut [u8]) -> i64
-    ensures answer { λ r. ⌜ r ≡ signed (marksAnswer speed purpose (now (heights .entry)) (now (list .entry))) ⌝ }
-    ensures list { λ _. ⌜ now (list .exit) ≡ marksList speed purpose (now (heights .entry)) (now (list .entry)) ⌝ }
+pub extern "C" fn vcp_marks(
+    speed: u32,
+    purpose: u32,
+    grade: i32,
+    heights: &[i32],
+    list: &mut [u8],
+) -> i64
+    ensures answer { λ r. ⌜ r ≡ signed (marksAnswer speed purpose grade (now (heights .entry)) (now (list .entry))) ⌝ }
+    ensures list { λ _. ⌜ now (list .exit) ≡ marksList speed purpose grade (now (heights .entry)) (now (list .entry)) ⌝ }
 {
-    terms::signed_answer(marks::marks(speed, purpose, heights, list))
+    terms::signed_answer(marks::marks(speed, purpose, grade, heights, list))
 }
 
 #[no_mangle]

@@ -7,10 +7,10 @@ ghost use Rattle.crest.specs.Crest.{crestLength};
 ghost use Rattle.road_marks.specs.RoadMarks.{markFileAnswer, markFileList};
 
 #[no_mangle]
-pub extern "C" fn vcp_required_distance(speed: u32, purpose: u32) -> i32
-    ensures { λ r. ⌜ r ≡ signed (requiredDistance speed purpose) ⌝ }
+pub extern "C" fn vcp_required_distance(speed: u32, purpose: u32, grade: i32) -> i32
+    ensures { λ r. ⌜ r ≡ signed (requiredDistance speed purpose grade) ⌝ }
 {
-    terms::signed_answer(distance::required_distance(speed, purpose)) as i32
+    terms::signed_answer(distance::required_distance(speed, purpose, grade)) as i32
 }
 
 #[no_mangle]

@@ -10,7 +10,7 @@ use Rattle.whole.proofs.Fill.{filled-length}
 use Rattle.whole.proofs.Range.{same-by}
 use Rattle.road.specs.Road.{noCurve, curvesOf}
 use Rattle.road.proofs.Accepted.{SoundRoad, accepted-road}
-use Rattle.road.proofs.Places.{curve-places, next-curve}
+use Rattle.road.proofs.Places.{curve-places, next-curve, place-in-use}
 use Rattle.heights.proofs.Along.{WalkRead, walk-read}
 use Rattle.heights.proofs.Walked.{Walked, start, walk-in-range-start, walked-none, next-ahead, next-on-road, walked-more, walked-all}
 use Rattle.heights.proofs.fill_road.Statement.{statement}
@@ -48,7 +48,7 @@ module _ (t : tie.In-loop Inv-loop μ-loop) where
 
   next : drop (t .before .loop .k) (curvesOf (begun (t .before) .args .t1)) ≡
       getD (begun (t .before) .args .t1 .curves) (t .before .loop .k) noCurve ∷ drop (t .before .loop .k + 1) (curvesOf (begun (t .before) .args .t1))
-  next = next-curve (begun (t .before) .args .t1) (t .before .loop .k) noCurve (in-places (begun (t .before))) more
+  next = let r = begun (t .before) .args .t1 in next-curve r (t .before .loop .k) noCurve (place-in-use r (in-places (begun (t .before))) more)
 
 slice-set-from-list : tie.Need-slice-set-from-list Inv-loop μ-loop
 slice-set-from-list c = omega (arith, c .before .pre .1)

@@ -2,7 +2,7 @@
 -- is small (`bend-size`), so that the sum fits 32 bits.
 use Prim.Native.Nat.{_*_}
 use mathlib.Core.Bool.{true}
-use mathlib.Core.Path.{_≡_, refl, sym, ap, _∙_}
+use mathlib.Core.Path.{_≡_, sym, ap, _∙_}
 use borrow.Author.Needs.{needs}
 use native.Mathlib.Omega.{arith}
 use lib.IntN.{pos, natAbs, _-ℤ_, _*ℤ_}
@@ -10,7 +10,7 @@ use mir.Syntax.{w16, w64}
 use mir.Val.{toZ, ofZ}
 use Rattle.whole.specs.Floor.{floorDiv}
 use Rattle.whole.proofs.Floor.{floorR}
-use Rattle.whole.proofs.Range.{Reads, natB, countR, mulR, fits-by, same-by, sizes}
+use Rattle.whole.proofs.Range.{Reads, natR, countR, mulR, fits-by, same-by, sizes}
 use Rattle.whole.proofs.Range.{reads as reading}
 use Rattle.terms.specs.Limits.{greatestGrade, greatestCurve}
 use Rattle.heights.proofs.Along.{WalkRead, grade-out-size, walk-read, out-read, bend-size, curve-floor}
@@ -26,7 +26,7 @@ module _ (s : tie.Start) where
 
   abbrev divisor : Reads (pos 2 *ℤ toZ w64 (s .args .c .length)) (pos (2 * s .args .c .length))
   divisor =
-      let two : Reads (pos 2) (pos 2) = record { size = natB 2 (omega arith); good = true; same = λ _. refl } in
+      let two = natR {k = 2} 2 (omega arith) in
       mulR {y = pos (s .args .c .length)} two (countR w64 (s .args .c .length) greatestCurve (omega arith))
 
 cast-x : tie.Need-cast-x

@@ -16,11 +16,8 @@ use Rattle.listing.proofs.write_road.Tie as tie
 cast-speed : tie.Need-cast-speed
 cast-speed c = search needs
 
-cast-distances-for : tie.Need-cast-distances-for
-cast-distances-for c = search needs
-
-distances-for-requires : tie.Need-distances-for-requires
-distances-for-requires c κs = search needs
+road-distances-requires : tie.Need-road-distances-requires
+road-distances-requires c κs = search needs
 
 slice-aggregate-write-line : tie.Need-slice-aggregate-write-line
 slice-aggregate-write-line c = search needs
@@ -48,11 +45,11 @@ add-stations c = search needs
 abbrev lined : tie.After-mark-road → tie.After-write-line
 lined m = m .before .before .before .before
 
-abbrev needed : tie.After-mark-road → tie.After-distances-for
+abbrev needed : tie.After-mark-road → tie.After-road-distances
 needed m = lined m .before .before .before .before
 
 abbrev start : tie.After-mark-road → tie.Start
-start m = needed m .before .before .before .before
+start m = needed m .before .before .before
 
 -- the array has a place for each station of an accepted road
 room : (m : tie.After-mark-road) → start m .args .road .length + 1 ≤ length (m .mark-road .last .1 .0)
@@ -77,15 +74,14 @@ unfolding roadText
 returns c =
     let z = c .before .before in let m = z .before .before .before .before .before in
     let own = own-marks-front _ _ _ (m .mark-road .ensures .1) (start m .pre) (room m) in
-    rw (← needed m .distances-for .ensures) (put-join (lined m .write-line .ensures) (rw own at (z .write-zones-text .ensures)))
+    rw (← needed m .road-distances .ensures) (put-join (lined m .write-line .ensures) (rw own at (z .write-zones-text .ensures)))
 
 pub write-road-spec : {M : Type 1} → statement M
 write-road-spec =
     tie.close
     (tie.spec
     cast-speed
-    cast-distances-for
-    distances-for-requires
+    road-distances-requires
     slice-aggregate-write-line
     slice-aggregate-write-line-2
     write-line-requires

@@ -2,7 +2,7 @@
 use mathlib.Core.Path.{ap, _∙_}
 use mir.Syntax.{w64}
 use borrow.Author.Needs.{needs}
-use Rattle.whole.proofs.Machine.{got}
+use Rattle.whole.proofs.Machine.{plain, got}
 use Rattle.terms.specs.Answers.{signed}
 use Rattle.marks_exports.proofs.vcp_marks.Statement.{statement}
 use Rattle.marks_exports.proofs.vcp_marks.Tie as tie
@@ -18,7 +18,8 @@ same-length c = search needs
 
 returns : tie.Need-returns
 returns c =
-    let p = c .before .before .before .marks .ensures in
+    let m = c .before .before .before in
+    let p = rw (plain (m .before .before .before .fits .grade)) at (m .marks .ensures) in
     (got w64 _ (c .signed-answer .ok) ∙ c .signed-answer .ensures ∙ ap signed (p .0), p .1)
 
 pub vcp-marks-spec : {M : Type 1} → statement M
