@@ -6,10 +6,12 @@ use picture::{svg, Curve, Profile};
 
 use crate::reference::distances::required_distance;
 use crate::reference::marks::{marks, runs};
-use crate::reference::road::{heights, Road};
+use crate::reference::road::{heights, marking_grade, Road};
 
-/// The distances for stopping and for the decision, the curves, the heights and the zones of an accepted road.
+/// The grade that an accepted road is marked with, the distances for stopping and for the decision, the curves, the heights
+/// and the zones.
 pub struct Drawn {
+    pub grade: i32,
     pub distances: [u32; 2],
     pub curves: Vec<Curve>,
     pub heights: Vec<i32>,
@@ -18,18 +20,20 @@ pub struct Drawn {
 
 impl Drawn {
     pub fn of(road: &Road) -> Drawn {
-        let (speed, purpose) = (road.speed.into(), road.purpose.into());
+        let (speed, purpose, grade) = (road.speed.into(), road.purpose.into(), marking_grade(road));
         let mut list = vec![0; road.length as usize + 1];
         heights(road, &mut list).expect("the road is accepted");
         let mut marked = vec![0; list.len()];
-        marks(speed, purpose, &list, &mut marked).expect("the heights are marked");
+        marks(speed, purpose, grade, &list, &mut marked).expect("the heights are marked");
         let curves = road.curves.iter().map(|curve| Curve {
             pvi: curve.pvi,
             length: curve.length.into(),
             grade_out: curve.grade_out.into(),
         });
+        let required = |purpose: u32| required_distance(speed, purpose, grade).expect("the road is accepted");
         Drawn {
-            distances: [0, purpose].map(|purpose| required_distance(speed, purpose).expect("the road is accepted")),
+            grade,
+            distances: [0, purpose].map(required),
             curves: curves.collect(),
             heights: list,
             zones: array::from_fn(|bit| runs(&marked, bit as u32)),
@@ -42,6 +46,7 @@ impl Drawn {
         svg(&Profile {
             speed: road.speed.into(),
             purpose: road.purpose.into(),
+            grade: self.grade,
             stopping,
             decision,
             first_grade: road.first_grade.into(),

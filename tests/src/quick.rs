@@ -4,20 +4,27 @@
 use crate::reference::crest::Crest;
 use crate::reference::file::read;
 use crate::reference::marks::{EYE, OBJECT};
-use crate::reference::road::Road;
+use crate::reference::road::{marking_grade, Road};
 use crate::reference::sight::{available_sight, whole_heights, Look};
 use crate::reference::Answer;
 
 /// A purpose's reaction time in tenths of a second, and whether the braking term counts.
-const PURPOSES: [(u32, bool); 6] = [(25, true), (30, true), (91, true), (112, false), (129, false), (145, false)];
+const PURPOSES: [(u64, bool); 6] = [(25, true), (30, true), (91, true), (112, false), (129, false), (145, false)];
 
-/// The distance that an accepted speed and purpose require: (4,726 V t + 1,950 V²) / 850,000 fives of metres, rounded up.
-fn required_distance(speed: u8, purpose: u8) -> usize {
+/// The distance that an accepted speed, purpose and grade g require: (4,726 V t + 1,950 V²) / 850,000 fives of metres where g
+/// is 0, else (17,653 V t b + 24,525,000,000 V²) / (3,175,000 b) with b = 3,400,000 + 981 g, rounded up.
+fn required_distance(speed: u8, purpose: u8, grade: i32) -> usize {
     let (tenths, braking) = PURPOSES[usize::from(purpose)];
-    let speed = u32::from(speed);
-    let reaction_part = 4_726 * speed * tenths;
-    let braking_part = if braking { 1_950 * speed * speed } else { 0 };
-    5 * (reaction_part + braking_part).div_ceil(850_000) as usize
+    let speed = u64::from(speed);
+    let fives = match (braking, grade) {
+        (false, _) => (4_726 * speed * tenths).div_ceil(850_000),
+        (true, 0) => (4_726 * speed * tenths + 1_950 * speed * speed).div_ceil(850_000),
+        (true, _) => {
+            let b = (3_400_000 + 981 * grade) as u64;
+            (17_653 * speed * tenths * b + 24_525_000_000 * speed * speed).div_ceil(3_175_000 * b)
+        }
+    };
+    5 * fives as usize
 }
 
 /// The stored heights of an accepted road, straight by straight and curve by curve.
@@ -61,8 +68,9 @@ fn sight(heights: &[i32], i: usize, farthest: usize) -> usize {
 /// is judged.
 fn write_marks(road: &Road, list: &mut [u8], sight: impl Fn(usize, usize) -> usize) -> Answer {
     let stations = road.length as usize + 1;
-    let stopping = required_distance(road.speed, 0);
-    let decision = required_distance(road.speed, road.purpose);
+    let grade = marking_grade(road);
+    let stopping = required_distance(road.speed, 0, grade);
+    let decision = required_distance(road.speed, road.purpose, grade);
     let farthest = stopping.max(decision);
     for (i, place) in list[..stations].iter_mut().enumerate() {
         let stop = i + stopping < stations;

@@ -258,6 +258,6 @@ pub fn three_short_crests() -> Road {
         length: 400,
         start_height: 0,
         first_grade: 1_500,
-        curves: vec![crest(199, 700), crest(201, -200), crest(203, -300)],
+        curves: vec![crest(199, 850), crest(201, -180), crest(203, -260)],
     }
 }

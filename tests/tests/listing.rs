@@ -4,7 +4,7 @@ use sight_tests::lister;
 use sight_tests::random::Random;
 use sight_tests::reference::file::{bytes, read};
 use sight_tests::reference::listing::listing;
-use sight_tests::reference::road::Road;
+use sight_tests::reference::road::{Curve, Road};
 use sight_tests::roads::{self, EXAMPLE};
 
 /// Compares what the program prints with the second calculation. Answers the text.
@@ -18,8 +18,24 @@ fn compare(file: &[u8]) -> String {
 #[test]
 fn example_of_the_rules() {
     assert_eq!(*include_bytes!("../../roads/example.vcp"), EXAMPLE);
-    let lines = "VCP 1 20 20 25\nS 83 95\nD 78 96\nR 78 82\nR 96 96\ns 281 300\nd 276 300\n";
+    let lines = "VCP 1 20 25 25\nS 78 96\nD 78 96\ns 276 300\nd 276 300\n";
     assert_eq!(compare(&EXAMPLE), lines);
+}
+
+/// The distances are those on the least of the road's grades, wherever it stands, or on the level if none is negative.
+#[test]
+fn distances_on_the_least_grade() {
+    for (first_grade, grade_out, distances) in [
+        (0, 0, "160 170"),
+        (300, 100, "160 170"),
+        (-600, 100, "175 190"),
+        (100, -600, "175 190"),
+        (-600, -300, "175 190"),
+    ] {
+        let curves = vec![Curve { pvi: 100, length: 0, grade_out }];
+        let road = Road { speed: 90, purpose: 1, length: 100, start_height: 0, first_grade, curves };
+        assert_eq!(compare(&bytes(&road)), format!("VCP 1 90 {distances}\ns 0 100\nd 0 100\n"));
+    }
 }
 
 #[test]

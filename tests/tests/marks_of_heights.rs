@@ -3,49 +3,113 @@
 use sight_tests::bare;
 use sight_tests::lent;
 use sight_tests::random::Random;
+use sight_tests::reference::file::bytes;
 use sight_tests::reference::marks::{marks, EYE, OBJECT};
+use sight_tests::reference::road::{Curve, Road};
 use sight_tests::reference::sight::{available_sight, whole_heights, Look};
 use sight_tests::reference::Answer;
 use sight_tests::roads::EXAMPLE;
-use sight_tests::tally::Bits;
+use sight_tests::tally::{Bits, Tally};
+use vcp::{DECISION_LACKING, DECISION_NOT_JUDGED, REDUCED_DECISION, STOPPING_LACKING, STOPPING_NOT_JUDGED};
+
+/// What the distances are asked by.
+#[derive(Clone, Copy, Debug)]
+struct Drive {
+    speed: u32,
+    purpose: u32,
+    grade: i32,
+}
+
+/// The least of what is accepted, on the level.
+const SLOW: Drive = Drive { speed: 20, purpose: 1, grade: 0 };
 
 /// The program marks `places` bytes just as the second calculation does, and the rest stays.
-fn compare(random: &mut Random, speed: u32, purpose: u32, heights: &[i32], places: usize) -> (Answer, Vec<u8>) {
-    let proved = |list: &mut [u8]| bare(exports::marks(speed, purpose, heights, list));
-    let second = |list: &mut [u8]| marks(speed, purpose, heights, list);
+fn compare(random: &mut Random, drive: Drive, heights: &[i32], places: usize) -> (Answer, Vec<u8>) {
+    let Drive { speed, purpose, grade } = drive;
+    let proved = |list: &mut [u8]| bare(exports::marks(speed, purpose, grade, heights, list));
+    let second = |list: &mut [u8]| marks(speed, purpose, grade, heights, list);
     let before = random.list(places, |bits| bits as u8);
-    lent::compare(&before, proved, second, format_args!("speed {speed}, purpose {purpose}, {heights:?}"))
+    lent::compare(&before, proved, second, format_args!("{drive:?}, {heights:?}"))
 }
 
 /// Compares in lists that are one place too short, empty, and long enough. Answers the marks.
-fn compare_all(random: &mut Random, speed: u32, purpose: u32, heights: &[i32]) -> Vec<u8> {
+fn compare_all(random: &mut Random, drive: Drive, heights: &[i32]) -> Vec<u8> {
     let stations = heights.len();
-    assert_eq!(compare(random, speed, purpose, heights, stations - 1).0, Err(14));
-    assert_eq!(compare(random, speed, purpose, heights, 0).0, Err(14));
+    assert_eq!(compare(random, drive, heights, stations - 1).0, Err(14));
+    assert_eq!(compare(random, drive, heights, 0).0, Err(14));
     let more = random.within(0..=3) as usize;
-    let (answer, mut marks) = compare(random, speed, purpose, heights, stations + more);
+    let (answer, mut marks) = compare(random, drive, heights, stations + more);
     assert_eq!(answer, Ok(stations as u32));
     marks.truncate(stations);
     marks
 }
 
-/// Every bit of every mark says what its letter stands for.
-#[test]
-fn bits_of_the_example() {
-    let mut heights = [0; 301];
-    assert_eq!(exports::file_heights(&EXAMPLE, &mut heights), Ok(301));
-    let whole = whole_heights(&heights);
-    for (i, mark) in compare_all(&mut Random::new(22), 20, 1, &heights).into_iter().enumerate() {
-        let sight = |farthest: u32| available_sight(&whole, Look { eye: EYE, object: OBJECT, farthest }, i);
-        let (stopping_judged, decision_judged) = (i <= 280, i <= 275);
-        let (stopping_lacking, decision_lacking) =
-            (stopping_judged && sight(20) < 20, decision_judged && sight(25) < 25);
+/// The heights of a road file.
+fn heights_of(file: &[u8]) -> Vec<i32> {
+    let mut heights = vec![0; exports::ROAD_STATIONS];
+    let stations = exports::file_heights(file, &mut heights).expect("the road is accepted");
+    heights.truncate(stations as usize);
+    heights
+}
+
+/// Every bit of every mark says what its letter stands for, by the distances for stopping and for the decision.
+fn expect_bits(marks: &[u8], heights: &[i32], stopping: usize, decision: usize) {
+    let (whole, last) = (whole_heights(heights), heights.len() - 1);
+    for (i, mark) in marks.iter().enumerate() {
+        let look = |farthest: usize| Look { eye: EYE, object: OBJECT, farthest: farthest as u32 };
+        let sight = |farthest: usize| available_sight(&whole, look(farthest), i);
+        let (stopping_judged, decision_judged) = (i + stopping <= last, i + decision <= last);
+        let stopping_lacking = stopping_judged && sight(stopping) < stopping;
+        let decision_lacking = decision_judged && sight(decision) < decision;
         assert_eq!(mark & 1 != 0, stopping_lacking, "S at {i}");
         assert_eq!(mark & 2 != 0, decision_lacking, "D at {i}");
         assert_eq!(mark & 4 != 0, decision_lacking && stopping_judged && !stopping_lacking, "R at {i}");
         assert_eq!(mark & 8 != 0, !stopping_judged, "s at {i}");
         assert_eq!(mark & 16 != 0, !decision_judged, "d at {i}");
         assert_eq!(mark & 224, 0, "bits 5 to 7 at {i}");
+    }
+}
+
+/// The heights of the rules' example: on grade 0, where it has a reduced decision zone, and on the road's own.
+#[test]
+fn bits_of_the_example() {
+    let mut random = Random::new(22);
+    let heights = heights_of(&EXAMPLE);
+    for (grade, stopping, reduced) in [(0, 20, 6), (-1_500, 25, 0)] {
+        let marks = compare_all(&mut random, Drive { grade, ..SLOW }, &heights);
+        expect_bits(&marks, &heights, stopping, 25);
+        assert_eq!(marks.iter().filter(|&mark| mark & REDUCED_DECISION != 0).count(), reduced, "grade {grade}");
+    }
+}
+
+/// On the steepest downgrade a driver at 130 km/h needs 430 m to stop and 405 m for decision C. So a station before the crest
+/// may lack stopping sight alone; and near the road's end some are judged for the decision and not for stopping: they lack
+/// decision sight or have it, and none is in the reduced decision zone, where stopping is judged.
+#[test]
+fn bits_where_stopping_needs_more_than_the_decision() {
+    let road = Road {
+        speed: 130,
+        purpose: 3,
+        length: 950,
+        start_height: 0,
+        first_grade: 1_500,
+        curves: vec![Curve { pvi: 540, length: 20, grade_out: -1_500 }],
+    };
+    let (file, drive) = (bytes(&road), Drive { speed: 130, purpose: 3, grade: -1_500 });
+    let heights = heights_of(&file);
+    let mut marks = vec![0; heights.len()];
+    assert_eq!(vcp::mark_road_file(&file, &mut marks), Ok(951));
+    assert_eq!(marks, compare_all(&mut Random::new(46), drive, &heights));
+    expect_bits(&marks, &heights, 430, 405);
+    for (stations, mark) in [
+        (0..=109, 0),
+        (110..=134, STOPPING_LACKING),
+        (135..=520, STOPPING_LACKING | DECISION_LACKING),
+        (521..=537, DECISION_LACKING | STOPPING_NOT_JUDGED),
+        (538..=545, STOPPING_NOT_JUDGED),
+        (546..=950, STOPPING_NOT_JUDGED | DECISION_NOT_JUDGED),
+    ] {
+        assert!(marks[stations.clone()].iter().all(|&own| own == mark), "{mark:05b} from {stations:?}");
     }
 }
 
@@ -85,8 +149,12 @@ fn random_heights() {
             0 => any_heights(&mut random, stations),
             _ => uneven(&mut random, stations),
         };
-        let (speed, purpose) = (random.within(20..=35), random.within(1..=5));
-        bits.count(&compare_all(&mut random, speed, purpose, &heights));
+        let drive = Drive {
+            speed: random.within(20..=35),
+            purpose: random.within(1..=5),
+            grade: random.signed_within(-1_500..=1_500),
+        };
+        bits.count(&compare_all(&mut random, drive, &heights));
     }
     assert!(bits.0[..5].iter().all(|&many| many > 5_000), "{:?}", bits.0);
     assert_eq!(bits.0[5..], [0; 3]);
@@ -96,7 +164,7 @@ fn random_heights() {
 fn longest_list() {
     let mut random = Random::new(38);
     let heights = uneven(&mut random, 8_001);
-    compare_all(&mut random, 20, 1, &heights);
+    compare_all(&mut random, SLOW, &heights);
 }
 
 #[test]
@@ -104,34 +172,50 @@ fn refusals_at_each_edge() {
     let mut random = Random::new(39);
     let flat = [0; 8_002];
     for (speed, purpose) in [(20, 1), (20, 5), (130, 1), (130, 5)] {
-        assert_eq!(compare(&mut random, speed, purpose, &flat[..30], 30).0, Ok(30), "speed {speed}, purpose {purpose}");
+        for grade in [-1_500, -1, 0, 1, 1_500] {
+            let drive = Drive { speed, purpose, grade };
+            assert_eq!(compare(&mut random, drive, &flat[..30], 30).0, Ok(30), "{drive:?}");
+        }
     }
     for speed in [0, 19, 131, 276, 65_616, u32::MAX] {
-        assert_eq!(compare(&mut random, speed, 1, &flat[..30], 30).0, Err(6), "speed {speed}");
+        assert_eq!(compare(&mut random, Drive { speed, ..SLOW }, &flat[..30], 30).0, Err(6), "speed {speed}");
     }
     for purpose in [0, 6, 257, 65_537, u32::MAX] {
-        assert_eq!(compare(&mut random, 20, purpose, &flat[..30], 30).0, Err(7), "purpose {purpose}");
+        assert_eq!(compare(&mut random, Drive { purpose, ..SLOW }, &flat[..30], 30).0, Err(7), "purpose {purpose}");
+    }
+    for grade in [i32::MIN, -65_536, -1_501, 1_501, 65_536, i32::MAX] {
+        for purpose in [1, 2, 3, 5] {
+            let drive = Drive { purpose, grade, ..SLOW };
+            assert_eq!(compare(&mut random, drive, &flat[..30], 30).0, Err(10), "{drive:?}");
+        }
     }
     for (stations, answer) in [(0, Err(19)), (1, Ok(1)), (8_001, Ok(8_001)), (8_002, Err(19))] {
-        assert_eq!(compare(&mut random, 20, 1, &flat[..stations], 8_002).0, answer, "{stations} stations");
+        assert_eq!(compare(&mut random, SLOW, &flat[..stations], 8_002).0, answer, "{stations} stations");
     }
     for (places, answer) in [(0, Err(14)), (29, Err(14)), (30, Ok(30)), (31, Ok(30))] {
-        assert_eq!(compare(&mut random, 20, 1, &flat[..30], places).0, answer, "{places} places");
+        assert_eq!(compare(&mut random, SLOW, &flat[..30], places).0, answer, "{places} places");
     }
 }
 
-/// With more than one fault the first of 6, 7, 19, 14 decides.
+/// With more than one fault the first of 6, 7, 10, 19, 14 decides.
 #[test]
 fn refusals_in_order() {
     let mut random = Random::new(40);
-    for faults in 0..16 {
+    let mut tally = Tally::default();
+    for faults in 0..32 {
         let has = |fault: u32| faults >> fault & 1 == 1;
-        let speed = if has(0) { random.one_of(&[19, 131]) } else { 20 };
-        let purpose = if has(1) { random.one_of(&[0, 6]) } else { 1 };
-        let heights = vec![0; if has(2) { 8_002 } else { 20 }];
-        let places = heights.len() - usize::from(has(3));
-        let first = (0..).zip([6, 7, 19, 14]).find(|&(fault, _)| has(fault));
-        let answer = first.map_or(Ok(20), |(_, refusal)| Err(refusal));
-        assert_eq!(compare(&mut random, speed, purpose, &heights, places).0, answer, "{faults:04b}");
+        let drive = Drive {
+            speed: if has(0) { random.one_of(&[19, 131]) } else { 20 },
+            purpose: if has(1) { random.one_of(&[0, 6]) } else { 1 },
+            grade: if has(2) { random.one_of(&[-1_501, 1_501]) } else { -1_500 },
+        };
+        let heights = vec![0; if has(3) { 8_002 } else { 20 }];
+        let places = heights.len() - usize::from(has(4));
+        let first = (0..).zip([6, 7, 10, 19, 14]).find(|&(fault, _)| has(fault));
+        let expected = first.map_or(Ok(20), |(_, refusal)| Err(refusal));
+        let (answer, _) = compare(&mut random, drive, &heights, places);
+        assert_eq!(answer, expected, "{faults:05b}");
+        tally.count(answer);
     }
+    assert_eq!([6, 7, 10, 19, 14].map(|refusal| tally.refused(refusal)), [16, 8, 4, 2, 1]);
 }

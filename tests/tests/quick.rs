@@ -6,6 +6,7 @@ use sight_tests::reference::crest::{crest_length, Crest};
 use sight_tests::reference::distances::required_distance;
 use sight_tests::reference::file::bytes;
 use sight_tests::reference::marks::mark_road_file;
+use sight_tests::reference::road::marking_grade;
 use sight_tests::reference::Answer;
 use sight_tests::roads;
 use sight_tests::tally::{Bits, Tally};
@@ -27,14 +28,21 @@ fn compare(file: &[u8], places: usize) -> (Answer, Vec<u8>) {
 fn markings() {
     let mut random = Random::new(81);
     let mut bits = Bits::default();
+    let mut falling = 0;
     for round in 0..300 {
         let room = random.within(2..=40);
         let mut road = roads::run_of_crests(&mut random, room);
+        if round % 5 == 1 {
+            road.first_grade = road.first_grade.abs();
+            road.curves.iter_mut().for_each(|curve| curve.grade_out = curve.grade_out.abs());
+        }
         // Most are slow, so that there can be many.
         if round % 30 != 0 {
             road.speed = random.within(20..=40) as u8;
         }
-        road.length += required_distance(road.speed.into(), road.purpose.into()).expect("both are accepted");
+        let grade = marking_grade(&road);
+        falling += u32::from(grade < 0);
+        road.length += required_distance(road.speed.into(), road.purpose.into(), grade).expect("all are accepted");
         let (file, stations) = (bytes(&road), road.length as usize + 1);
         assert_eq!(compare(&file, stations - 1).0, Err(14));
         let (answer, marks) = compare(&file, stations + 3);
@@ -42,6 +50,7 @@ fn markings() {
         bits.count(&marks[..stations]);
     }
     assert!(bits.0[..5].iter().all(|&many| many > 100), "{:?}", bits.0);
+    assert!((200..=240).contains(&falling), "{falling} of 300 roads fall");
 }
 
 #[test]

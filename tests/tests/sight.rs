@@ -7,7 +7,7 @@ use sight_tests::random::Random;
 use sight_tests::reference::distances::required_distance;
 use sight_tests::reference::file::bytes;
 use sight_tests::reference::marks::{EYE, OBJECT};
-use sight_tests::reference::road::{exact_heights, stored_height, Road};
+use sight_tests::reference::road::{exact_heights, marking_grade, stored_height, Road};
 use sight_tests::reference::sight::{
     ahead, available_sight, clears, seen, sight, sight_profile, whole_heights, Height, Look,
 };
@@ -384,14 +384,14 @@ fn heights_read(road: &Road, turn: Turn) -> Vec<i64> {
 }
 
 /// The fault that once was: behind a short crest the look-ahead still read the curve just passed. On this run of three
-/// short crests, each touching the one before, a driver at 90 km/h needs 160 m. At station 194 the third crest hides
-/// what stands beyond 153 m. A look-ahead that tests the nearest curve only says clear, and so does one that turns to
+/// short crests, each touching the one before, a driver at 90 km/h needs 165 m. At station 194 the third crest hides
+/// what stands beyond 159 m. A look-ahead that tests the nearest curve only says clear, and so does one that turns to
 /// the next curve a metre late: it reads station 203, on the third crest, as if the second crest went on.
 #[test]
 fn hump_behind_a_short_crest() {
     let road = roads::three_short_crests();
-    let required = required_distance(road.speed.into(), 0).expect("the speed is accepted");
-    assert_eq!(required, 160);
+    let required = required_distance(road.speed.into(), 0, marking_grade(&road)).expect("the road is accepted");
+    assert_eq!(required, 165);
     let look = look(EYE, OBJECT, required);
     let station = 194;
 
@@ -403,14 +403,14 @@ fn hump_behind_a_short_crest() {
     let late = heights_read(&road, Turn::AfterTheStation);
 
     // Both wrong look-aheads say clear.
-    assert_eq!(sight_over_nearest_curve(&road, &whole, look, station), 160);
-    assert_eq!(available_sight(&late, look, station), 160);
+    assert_eq!(sight_over_nearest_curve(&road, &whole, look, station), 165);
+    assert_eq!(available_sight(&late, look, station), 165);
     // It is not clear, and only station 203 is in the way.
-    assert_eq!(compare_sight(&heights, station as u32, look), Ok(153));
-    assert_eq!(compare_all(&mut Random::new(20), &heights, look)[station], 153);
-    for j in station + 1..=station + 160 {
+    assert_eq!(compare_sight(&heights, station as u32, look), Ok(159));
+    assert_eq!(compare_all(&mut Random::new(20), &heights, look)[station], 159);
+    for j in station + 1..=station + 165 {
         let in_the_way: Vec<usize> = (station + 1..j).filter(|&k| !clears(&whole, look, station, k, j)).collect();
-        assert_eq!(in_the_way, if j <= station + 153 { vec![] } else { vec![203] }, "object at {j}");
+        assert_eq!(in_the_way, if j <= station + 159 { vec![] } else { vec![203] }, "object at {j}");
     }
     assert!(late[203] < whole[203]);
 }

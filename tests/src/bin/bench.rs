@@ -17,7 +17,7 @@ use sight_tests::random::Random;
 use sight_tests::reference::crest::Crest;
 use sight_tests::reference::distances::required_distance;
 use sight_tests::reference::file::bytes;
-use sight_tests::reference::road::{Curve, Road};
+use sight_tests::reference::road::{marking_grade, Curve, Road};
 use sight_tests::reference::Answer;
 
 const ROUNDS: usize = 15;
@@ -221,7 +221,8 @@ fn comparisons() {
 fn growth(roads: impl Iterator<Item = Road>) {
     println!("{:>8} {:>6} {:>12} {:>12} {:>12}", "road m", "km/h", "required m", "van us", "safe Rust us");
     for road in roads {
-        let required = required_distance(road.speed.into(), road.purpose.into()).expect("the speed is accepted");
+        let required = required_distance(road.speed.into(), road.purpose.into(), marking_grade(&road));
+        let required = required.expect("the speed is accepted");
         let Times { van, other, .. } = markings(&road, quick::mark_road_file);
         println!("{:8} {:6} {required:12} {van:12.1} {other:12.1}", road.length, road.speed);
     }

@@ -1,6 +1,6 @@
 //! docs/RULES.md, "Road file".
 
-use super::road::{heights, verdict, Curve, Road};
+use super::road::{heights, marking_grade, verdict, Curve, Road};
 use super::Answer;
 
 pub fn read(file: &[u8]) -> Result<Road, u32> {
@@ -71,4 +71,9 @@ pub fn rewrite(file: &[u8], buffer: &mut [u8]) -> Answer {
 /// Reads a file and fills the heights of its road.
 pub fn file_heights(file: &[u8], list: &mut [i32]) -> Answer {
     heights(&read(file)?, list)
+}
+
+/// Reads a file and answers the grade that its road is marked with.
+pub fn file_grade(file: &[u8]) -> Result<i32, u32> {
+    Ok(marking_grade(&read(file)?))
 }

@@ -49,6 +49,7 @@ impl Mul for Fraction {
     }
 }
 
+/// The divisor is positive.
 impl Div for Fraction {
     type Output = Fraction;
     fn div(self, other: Fraction) -> Fraction {

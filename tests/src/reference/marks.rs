@@ -2,7 +2,7 @@
 
 use super::distances::required_distance;
 use super::file::read;
-use super::road::stored_height;
+use super::road::{marking_grade, stored_height};
 use super::sight::{available_sight, list_verdict, whole_heights, Look};
 use super::Answer;
 
@@ -43,12 +43,15 @@ pub fn mark(heights: &[i64], i: usize, stopping: u32, decision: u32) -> u8 {
     bits.iter().enumerate().map(|(bit, &set)| u8::from(set) << bit).sum()
 }
 
-pub fn marks(speed: u32, purpose: u32, heights: &[i32], list: &mut [u8]) -> Answer {
-    let stopping = required_distance(speed, 0)?;
+pub fn marks(speed: u32, purpose: u32, grade: i32, heights: &[i32], list: &mut [u8]) -> Answer {
+    if !(20..=130).contains(&speed) {
+        return Err(6);
+    }
     if !(1..=5).contains(&purpose) {
         return Err(7);
     }
-    let decision = required_distance(speed, purpose)?;
+    let stopping = required_distance(speed, 0, grade)?;
+    let decision = required_distance(speed, purpose, grade)?;
     list_verdict(heights.len())?;
     if list.len() < heights.len() {
         return Err(14);
@@ -63,7 +66,7 @@ pub fn marks(speed: u32, purpose: u32, heights: &[i32], list: &mut [u8]) -> Answ
 pub fn mark_road_file(file: &[u8], list: &mut [u8]) -> Answer {
     let road = read(file)?;
     let heights: Vec<i32> = (0..=road.length).map(|station| stored_height(&road, station)).collect();
-    marks(road.speed.into(), road.purpose.into(), &heights, list)
+    marks(road.speed.into(), road.purpose.into(), marking_grade(&road), &heights, list)
 }
 
 /// All longest runs of stations with this bit, ascending, each as its first and last station.

@@ -71,6 +71,12 @@ pub fn verdict(road: &Road) -> Result<(), u32> {
     Ok(())
 }
 
+/// The grade that a road is marked with: the least of its grades, the first one included, or 0 if none is negative.
+pub fn marking_grade(road: &Road) -> i32 {
+    let grades = [road.first_grade].into_iter().chain(road.curves.iter().map(|curve| curve.grade_out));
+    grades.filter(|&grade| grade < 0).min().unwrap_or(0).into()
+}
+
 /// d metres after a curve's begin: begin height + (grade in) d + (grade out − grade in) d² / (2L).
 fn on_curve(begin_height: i128, grade_in: i128, grade_out: i128, length: i128, d: i128) -> Fraction {
     Fraction::whole(begin_height + grade_in * d) + Fraction::new((grade_out - grade_in) * d * d, 2 * length)

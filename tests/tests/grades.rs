@@ -1,0 +1,165 @@
+//! docs/RULES.md, "Distances a driver needs": the grade that a road is marked with.
+
+use sight_tests::random::Random;
+use sight_tests::reference::distances::required_distance;
+use sight_tests::reference::file::{bytes, file_grade, read};
+use sight_tests::reference::marks::runs;
+use sight_tests::reference::road::{marking_grade, Curve, Road};
+use sight_tests::roads::{self, EXAMPLE};
+use sight_tests::tally::Tally;
+
+/// The program's answer for a file, which is that of the second calculation.
+fn compare(file: &[u8]) -> Result<i32, u32> {
+    let answer = exports::file_grade(file).map_err(|refusal| refusal.number());
+    assert_eq!(answer, file_grade(file), "{file:02X?}");
+    answer
+}
+
+/// An accepted road with a first grade and breaks to these grades, the last of them at the road's end.
+fn road(first_grade: i16, grades: &[i16]) -> Road {
+    let length = 10 * grades.len().max(1) as u32;
+    let curves = (1..).zip(grades).map(|(place, &grade_out)| Curve { pvi: 10 * place, length: 0, grade_out });
+    Road { speed: 90, purpose: 1, length, start_height: 0, first_grade, curves: curves.collect() }
+}
+
+#[test]
+fn grade_of_the_example() {
+    assert_eq!(compare(&EXAMPLE), Ok(-1_500));
+    assert_eq!(marking_grade(&read(&EXAMPLE).expect("the example is accepted")), -1_500);
+}
+
+/// The least grade counts wherever it stands: as the first grade and as the grade out of each of the curves.
+#[test]
+fn least_grade_at_every_place() {
+    let mut random = Random::new(47);
+    for curves in [0, 1, 2, 31, 32] {
+        for place in 0..=curves {
+            let least = -(random.of_any_size(1_500) as i16);
+            let above = random.one_of(&[least + 1, 0, 1_500]);
+            let mut grades = vec![above; curves + 1];
+            grades[place] = least;
+            let road = road(grades[0], &grades[1..]);
+            assert_eq!(compare(&bytes(&road)), Ok(least.into()), "{road:?}");
+        }
+    }
+}
+
+/// Where none is negative it is 0, also where all are positive.
+#[test]
+fn no_road_is_marked_with_an_upgrade() {
+    for curves in [0, 1, 2, 31, 32] {
+        for grade in [0, 1, 1_500] {
+            assert_eq!(compare(&bytes(&road(grade, &vec![grade; curves]))), Ok(0), "{curves} curves, grade {grade}");
+        }
+        assert_eq!(compare(&bytes(&road(1_500, &vec![1; curves]))), Ok(0), "{curves} curves");
+    }
+}
+
+/// Every grade that a road may have, alone.
+#[test]
+fn every_grade() {
+    for grade in -1_500..=1_500 {
+        let expected = Ok(i32::from(grade).min(0));
+        assert_eq!(compare(&bytes(&road(grade, &[]))), expected);
+        assert_eq!(compare(&bytes(&road(1_500, &[grade]))), expected);
+    }
+}
+
+/// Runs of short crests and sags first of all, then roads of every kind.
+#[test]
+fn random_roads() {
+    let mut random = Random::new(48);
+    let (mut level, mut first, mut last, mut between) = (0, 0, 0, 0);
+    for round in 0..20_000 {
+        let room = random.within(2..=100);
+        let road = if round % 4 < 3 { roads::run_of_crests(&mut random, room) } else { roads::any_road(&mut random) };
+        let road = roads::gentler(road, random.one_of(&[1, 1, 10, 1_000]));
+        let grade = compare(&bytes(&road)).expect("the road is accepted");
+        let grades: Vec<i32> = road.curves.iter().map(|curve| curve.grade_out.into()).collect();
+        match grades.iter().position(|&own| own == grade) {
+            _ if grade == 0 => level += 1,
+            None => first += 1,
+            Some(place) if place + 1 == grades.len() => last += 1,
+            Some(_) => between += 1,
+        }
+    }
+    assert!([level, first, last, between].iter().all(|&many| many > 1_000), "{level}, {first}, {last}, {between}");
+}
+
+/// A file is refused as reading refuses it.
+#[test]
+fn refused_files() {
+    let mut random = Random::new(49);
+    let mut tally = Tally::default();
+    for _ in 0..20_000 {
+        let file = match random.within(0..=3) {
+            0 => {
+                let refusal = random.within(1..=13);
+                roads::faulty_file(&mut random, &[refusal])
+            }
+            1 => {
+                let refusals: Vec<u32> = (0..random.within(2..=5)).map(|_| random.within(1..=13)).collect();
+                roads::faulty_file(&mut random, &refusals)
+            }
+            2 => roads::careless_file(&mut random),
+            _ => roads::noise(&mut random),
+        };
+        let answer = compare(&file);
+        assert_eq!(answer.err(), read(&file).err(), "{file:02X?}");
+        tally.count(answer.map(i32::unsigned_abs));
+    }
+    assert!(tally.numbers() > 100, "{} accepted", tally.numbers());
+    for refusal in 1..=13 {
+        assert!(tally.refused(refusal) > 200, "{} refused {refusal}", tally.refused(refusal));
+    }
+}
+
+/// The distances of a road's listing, and how many of its last stations are not judged for each.
+fn distances(road: &Road) -> [[u32; 2]; 2] {
+    let file = bytes(road);
+    let mut text = vec![0; exports::GREATEST_LISTING];
+    let length = exports::list_road_file(&file, &mut text).expect("the text has room") as usize;
+    let text = String::from_utf8(text[..length].to_vec()).expect("a listing is text");
+    let listed = text.lines().next().and_then(|line| line.strip_prefix("VCP 1 90 ")).expect("its first line");
+    let listed: Vec<u32> = listed.split(' ').map(|number| number.parse().expect("a number")).collect();
+    let mut marks = vec![0; road.length as usize + 1];
+    vcp::mark_road_file(&file, &mut marks).expect("the marks have room");
+    let not_judged = [3, 4].map(|bit| match runs(&marks, bit)[..] {
+        [[first, last]] => u32::from(last - first) + 1,
+        _ => panic!("the last stations are not judged: {road:?}"),
+    });
+    [[listed[0], listed[1]], not_judged]
+}
+
+/// Two roads that differ only in the grade behind a break: the listing and the marks go by the least grade, even where it is
+/// that at the road's end and no height changes with it.
+#[test]
+fn roads_that_differ_in_their_least_grade() {
+    for place in [0, 20, 29] {
+        let mut grades = [100; 30];
+        let level = road(100, &grades);
+        assert_eq!(distances(&level), [[160, 170]; 2], "no grade is negative");
+        for (grade, stopping, decision) in [(-300, 165, 180), (-600, 175, 190), (-1_500, 225, 240)] {
+            grades[place] = grade;
+            let road = road(100, &grades);
+            assert_eq!(distances(&road), [[stopping, decision]; 2], "{road:?}");
+            let required = |purpose: u32| required_distance(90, purpose, grade.into());
+            assert_eq!([0, 1].map(required), [Ok(stopping), Ok(decision)]);
+            let heights = [&level, &road].map(|road| {
+                let mut heights = [0; 301];
+                exports::file_heights(&bytes(road), &mut heights).expect("the road is accepted");
+                heights
+            });
+            assert_eq!(heights[0] == heights[1], place == 29);
+        }
+    }
+}
+
+/// A road that falls gently needs less than a level one (see the tests of distances), and its grade is not taken for 0.
+#[test]
+fn roads_that_fall_gently() {
+    for (grade, stopping) in [(1, 160), (0, 160), (-1, 155), (-16, 155), (-17, 160)] {
+        let road = Road { length: 300, ..road(grade, &[]) };
+        assert_eq!(distances(&road), [[stopping, 170]; 2], "grade {grade}");
+    }
+}
