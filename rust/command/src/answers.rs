@@ -17,6 +17,9 @@ use crate::{complain, input, purpose, report, tables};
 /// So many faults of a text are said at most.
 const MOST_FAULTS: usize = 20;
 
+/// The grade of a level road.
+const LEVEL: i32 = 0;
+
 /// Answers for each file in turn, and goes on after one that is refused or cannot be read. The status is the greatest.
 fn for_each_file(
     given: &Given,
@@ -80,13 +83,19 @@ pub fn report(given: &Given, output: &mut Output) -> Result<u8, Trouble> {
     })
 }
 
+/// The grade in hundredths of a percent that is given; where none is, that of a level road.
+fn grade(given: &Given) -> Result<i32, Trouble> {
+    Ok(given.option("--grade", |text| GRADE.read_signed(text))?.unwrap_or(LEVEL))
+}
+
 /// `vcp check`.
 pub fn check(given: &Given, output: &mut Output) -> Result<u8, Trouble> {
     let speed = given.needed("--speed", |text| WHOLE.read(text))?;
     let purpose = given.needed("--purpose", purpose::read)?;
+    let grade = grade(given)?;
     let path = given.file();
     let survey = Survey::read(path, input::open(path)?)?;
-    let judgement = Judgement::of_heights(speed, purpose, &survey.heights).map_err(Trouble::refused(path))?;
+    let judgement = Judgement::of_heights(speed, purpose, grade, &survey.heights).map_err(Trouble::refused(path))?;
     output.write(report::report(&shown(path), &judgement, survey.first).as_bytes()).map(|()| ANSWERED)
 }
 
@@ -103,6 +112,7 @@ fn picture_of(file: &[u8]) -> Result<String, Refusal> {
     Ok(picture::svg(&Profile {
         speed: judgement.speed,
         purpose: judgement.purpose,
+        grade: judgement.grade,
         stopping: judgement.stopping,
         decision: judgement.decision,
         first_grade: first_grade as i32,
@@ -156,7 +166,8 @@ fn print(output: &mut Output, number: u32) -> Result<u8, Trouble> {
 pub fn distance(given: &Given, output: &mut Output) -> Result<u8, Trouble> {
     let speed = given.operand(0, |text| WHOLE.read(text))?;
     let purpose = given.operand(1, purpose::read)?;
-    print(output, vcp::required_distance(speed, purpose).map_err(Trouble::refused("vcp distance"))?)
+    let grade = grade(given)?;
+    print(output, vcp::required_distance(speed, purpose, grade).map_err(Trouble::refused("vcp distance"))?)
 }
 
 /// `vcp crest`.
@@ -168,7 +179,7 @@ pub fn crest(given: &Given, output: &mut Output) -> Result<u8, Trouble> {
     let whole = |name: &str| given.option(name, |text| WHOLE.read(text));
     let sight = match (whole("--sight")?, whole("--speed")?) {
         (Some(sight), None) => sight,
-        (None, Some(speed)) => vcp::required_distance(speed, purpose::STOPPING).map_err(&refused)?,
+        (None, Some(speed)) => vcp::required_distance(speed, purpose::STOPPING, LEVEL).map_err(&refused)?,
         (None, None) => return Err(given.wrong("--sight or --speed is missing")),
         (Some(_), Some(_)) => return Err(given.wrong("--sight and --speed exclude each other")),
     };

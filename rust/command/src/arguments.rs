@@ -51,6 +51,13 @@ impl Unit {
         }
         Ok(u32::try_from(number).unwrap_or(u32::MAX))
     }
+
+    /// Reads a number that may be negative. One that 32 bits do not hold is taken for the nearest that they do, which every
+    /// proved function refuses as well.
+    pub fn read_signed(self, text: &str) -> Result<i32, String> {
+        let number = decimal::read(text, self.decimals)?;
+        Ok(number.clamp(i32::MIN.into(), i32::MAX.into()) as i32)
+    }
 }
 
 /// An option's name, and the value that stands in the same argument: behind `=`, or right behind one letter.

@@ -60,6 +60,7 @@ const FROM: Choice = choice("--from", "M", "the first station (0)");
 const TO: Choice = choice("--to", "M", "the last station (the road's end)");
 const EYE: Choice = choice("--eye", "M", "height of the eye above the road, in m (1.08)");
 const OBJECT: Choice = choice("--object", "M", "height of the object, in m (0.60)");
+const GRADE: Choice = choice("--grade", "PERCENT", "the road's grade, uphill positive, as -6.00 (0.00)");
 
 pub const COMMANDS: [Command; 10] = [
     Command {
@@ -67,8 +68,9 @@ pub const COMMANDS: [Command; 10] = [
         prints: "the listing of road files, for programs",
         details: "\
 The first line has the word VCP, the version, the speed in km/h, the stopping
-and the decision distance in m. Each line behind it is a zone: its letter, its
-first and its last station.
+and the decision distance in m, on the least of the road's grades, or 0 if none
+is negative. Each line behind it is a zone: its letter, its first and its last
+station.
   S  stopping sight is lacking
   D  decision sight is lacking
   R  reduced decision zone: stopping sight is there, decision sight is not
@@ -83,7 +85,8 @@ The listing of a refused file is one line, 'refused' and the number.",
         name: "report",
         prints: "the zones of road files in words, for people",
         details: "\
-For each road: the distances that are needed; at how many stations sight is
+For each road: the distances that are needed on its grade, which is the least of
+the road's grades, or 0 if none is negative; at how many stations sight is
 judged, lacking and not judged; every zone in words, with its length. There is a
 station each metre, and it stands for the metre around it: a zone of one station
 is 1 m long. The share is of the judged stations. A station is not judged where
@@ -118,18 +121,22 @@ where the object is hidden first, at the farthest distance, or with the road.",
 HEIGHTS is CSV as 'vcp heights' writes it, with or without the header: on each
 line a station and its height in m, with at most four decimals, one line a
 metre, at most 8001 of them. The first station may be any. A gap, a station
-twice or a line that cannot be read is an error with its line.",
+twice or a line that cannot be read is an error with its line. The distances are
+those on the given grade; 'vcp report' says which grade a road is judged on.",
         operands: Operands { names: &["HEIGHTS"], more: false },
         options: &[
             needed("--speed", "KMH", "the speed in km/h"),
             needed("--purpose", "PURPOSE", "the decision, A to E or 1 to 5"),
+            GRADE,
         ],
         run: answers::check,
     },
     Command {
         name: "plot",
         prints: "a picture of the profile and its zones, as SVG",
-        details: "The heights are stretched; the picture says how many times.",
+        details: "\
+The heights are stretched; the picture says how many times. The distances are
+those on the least of the road's grades, or 0 if none is negative.",
         operands: ONE_FILE,
         options: &[OUTPUT],
         run: answers::plot,
@@ -168,9 +175,10 @@ What cannot be read, and what is refused of the road, is said with its line.",
         prints: "the required distance in m",
         details: "\
 SPEED is in km/h. PURPOSE is a number or a name: 0 or stopping; 1 to 5, A to E
-or decision-A to decision-E.",
+or decision-A to decision-E. The decisions C to E need the same distance on
+every grade.",
         operands: Operands { names: &["SPEED", "PURPOSE"], more: false },
-        options: &[],
+        options: &[GRADE],
         run: answers::distance,
     },
     Command {
@@ -179,7 +187,7 @@ or decision-A to decision-E.",
         details: "\
 The least even length over which the object is seen from the sight distance. One
 of --sight and --speed is given: with --speed the sight distance is the stopping
-distance of that speed.",
+distance of that speed on the level.",
         operands: Operands { names: &[], more: false },
         options: &[
             needed("--drop", "PERCENT", "how much the grade falls, as 6.00"),

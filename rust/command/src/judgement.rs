@@ -14,6 +14,8 @@ pub type Zones = [Vec<[u16; 2]>; 5];
 pub struct Judgement {
     pub speed: u32,
     pub purpose: u32,
+    /// The grade that the distances are needed on, in hundredths of a percent.
+    pub grade: i32,
     pub stopping: u32,
     pub decision: u32,
     /// The number of stations.
@@ -22,9 +24,10 @@ pub struct Judgement {
 }
 
 impl Judgement {
-    /// That of a road file, from its listing.
+    /// That of a road file, from its listing and the grade that it is marked with.
     pub fn of_road(file: &[u8]) -> Result<Judgement, Refusal> {
         let [_, purpose, ..] = roadtext::road_numbers(file)?.head;
+        let grade = exports::file_grade(file)?;
         let mut text = vec![0; GREATEST_LISTING];
         let bytes = exports::list_road_file(file, &mut text)?;
         let stations = exports::file_heights(file, &mut [0; MARKED_STATIONS])?;
@@ -36,22 +39,22 @@ impl Judgement {
                 zones[bit].push(numbers(line).map(|station| station as u16));
             }
         }
-        Ok(Judgement { speed, purpose: purpose as u32, stopping, decision, stations, zones })
+        Ok(Judgement { speed, purpose: purpose as u32, grade, stopping, decision, stations, zones })
     }
 
     /// That of heights, one a metre.
-    pub fn of_heights(speed: u32, purpose: u32, heights: &[i32]) -> Result<Judgement, Refusal> {
+    pub fn of_heights(speed: u32, purpose: u32, grade: i32, heights: &[i32]) -> Result<Judgement, Refusal> {
         let mut marks = vec![0; heights.len()];
-        let stations = exports::marks(speed, purpose, heights, &mut marks)?;
-        let stopping = vcp::required_distance(speed, purpose::STOPPING)?;
-        let decision = vcp::required_distance(speed, purpose)?;
+        let stations = exports::marks(speed, purpose, grade, heights, &mut marks)?;
+        let stopping = vcp::required_distance(speed, purpose::STOPPING, grade)?;
+        let decision = vcp::required_distance(speed, purpose, grade)?;
         let mut zones = Zones::default();
         let mut ends = [0; MOST_ENDS];
         for (bit, zones) in (0..).zip(&mut zones) {
             let many = exports::zones(&marks, bit, &mut ends)? as usize;
             zones.extend(ends[..2 * many].chunks_exact(2).map(|pair| [pair[0], pair[1]]));
         }
-        Ok(Judgement { speed, purpose, stopping, decision, stations, zones })
+        Ok(Judgement { speed, purpose, grade, stopping, decision, stations, zones })
     }
 }
 

@@ -1,6 +1,7 @@
 //! A judgement in words, in columns that line up.
 
 use picture::MEANINGS;
+use roadtext::decimal;
 
 use crate::judgement::Judgement;
 use crate::purpose;
@@ -70,7 +71,7 @@ fn zone_rows(judgement: &Judgement, zone: usize, first_station: u32) -> Vec<Row>
 
 /// The report of what is judged under this name, from its first station on.
 pub fn report(name: &str, judgement: &Judgement, first_station: u32) -> String {
-    let Judgement { speed, purpose, stopping, decision, stations, .. } = *judgement;
+    let Judgement { speed, purpose, grade, stopping, decision, stations, .. } = *judgement;
     let last_station = first_station + (stations - 1);
     let sums = [
         row([&format!("of {stations} stations"), "needed", "judged", "lacking", "share", "not judged"]),
@@ -79,10 +80,7 @@ pub fn report(name: &str, judgement: &Judgement, first_station: u32) -> String {
     ];
     let mut zones = vec![row(["zone", "from", "to", "length"])];
     zones.extend((0..MEANINGS.len()).flat_map(|zone| zone_rows(judgement, zone, first_station)));
-    let purpose = purpose::name(purpose);
-    format!(
-        "{name}: {speed} km/h, {purpose}, from station {first_station} to {last_station} (rising)\n\n{}\n{}",
-        lined_up(&sums),
-        lined_up(&zones)
-    )
+    let (purpose, grade) = (purpose::name(purpose), decimal::write(grade.into(), 2, 2));
+    let stretch = format!("from station {first_station} to {last_station} (rising)");
+    format!("{name}: {speed} km/h, {purpose}, grade {grade} %, {stretch}\n\n{}\n{}", lined_up(&sums), lined_up(&zones))
 }

@@ -290,6 +290,14 @@ fn help_is_true() {
     }
     assert!(row("sight", "--farthest").ends_with(&format!("({})", exports::GREATEST_FARTHEST)));
     assert!(help("check").contains(&format!(" at most {} of them", exports::GREATEST_LIST)));
+    for name in ["distance", "check"] {
+        assert!(row(name, "--grade").ends_with("uphill positive, as -6.00 (0.00)"), "{name}");
+    }
+    let words = |name: &str| help(name).split_whitespace().collect::<Vec<_>>().join(" ");
+    for name in ["list", "report", "plot"] {
+        assert!(words(name).contains("the least of the road's grades, or 0 if none is negative"), "{name}");
+    }
+    assert!(words("crest").contains("the stopping distance of that speed on the level."));
     let letters = ["S  stopping sight is lacking", "D  decision sight is lacking", "s  stopping is not judged"];
     for line in letters.into_iter().chain(["R  reduced decision zone", "d  the decision is not judged"]) {
         assert!(help("list").contains(&format!("\n  {line}")), "{line}");

@@ -90,7 +90,7 @@ fn same_as_the_lister() {
 fn example_of_the_rules() {
     let folder = folder("list_example");
     fs::write(folder.join("a.vcp"), EXAMPLE).expect("a file is written");
-    let text = "VCP 1 20 20 25\nS 83 95\nD 78 96\nR 78 82\nR 96 96\ns 281 300\nd 276 300\n";
+    let text = "VCP 1 20 25 25\nS 78 96\nD 78 96\ns 276 300\nd 276 300\n";
     common::expect(&folder, &["list", "a.vcp"], text);
     common::expect(&folder, &["list", "--", "a.vcp"], text);
     common::expect(&folder, &["list", "a.vcp", "a.vcp"], &text.repeat(2));
@@ -104,7 +104,7 @@ fn goes_on_after_a_refused_file() {
     let folder = folder("list_goes_on");
     fs::write(folder.join("a.vcp"), EXAMPLE).expect("a file is written");
     fs::write(folder.join("b.vcp"), &EXAMPLE[..21]).expect("a file is written");
-    let text = "VCP 1 20 20 25\nS 83 95\nD 78 96\nR 78 82\nR 96 96\ns 281 300\nd 276 300\n";
+    let text = "VCP 1 20 25 25\nS 78 96\nD 78 96\ns 276 300\nd 276 300\n";
     let refused = "b.vcp: refused 5: the file's total length is not 16 bytes and 6 for each curve\n";
     let ended = run(&folder, &["list", "a.vcp", "b.vcp", "a.vcp"]);
     assert_eq!(ended, Ended { output: format!("{text}refused 5\n{text}"), errors: refused.to_string(), status: 1 });

@@ -22,7 +22,7 @@ fn answer(arguments: &[&str]) -> Answer {
     }
 }
 
-/// Every purpose by its number and by its names, at many speeds and at the edges.
+/// Every purpose by its number and by its names, at many speeds and at the edges, on the level where nothing else is said.
 #[test]
 fn distances() {
     let names = [
@@ -36,13 +36,82 @@ fn distances() {
     for speed in [20, 21, 55, 80, 90, 129, 130] {
         for (purpose, names) in (0..).zip(names) {
             for name in names {
-                let expected = required_distance(speed, purpose);
+                let expected = required_distance(speed, purpose, 0);
                 assert_eq!(answer(&["distance", &speed.to_string(), name]), expected, "{speed} {name}");
             }
         }
     }
     for (speed, purpose, refusal) in [("19", "0", 6), ("131", "6", 6), ("4294967376", "0", 6), ("80", "6", 7)] {
         assert_eq!(answer(&["distance", speed, purpose]), Err(refusal), "{speed} {purpose}");
+    }
+}
+
+/// A grade in percent, with some of the zeros that may be left out.
+fn percent(random: &mut Random, grade: i32) -> String {
+    let sign = if grade < 0 { "-" } else { "" };
+    let text = format!("{sign}{}", decimal(grade.unsigned_abs(), 100, 2));
+    match grade.rem_euclid(100) {
+        0 if random.once_in(2) => text.strip_suffix(".00").expect("two zeros").to_string(),
+        rest if rest % 10 == 0 && random.once_in(2) => text.strip_suffix('0').expect("a zero").to_string(),
+        _ => text,
+    }
+}
+
+/// Any grade, behind the option or an '=', before the operands or behind them.
+#[test]
+fn distances_on_grades() {
+    let mut random = Random::new(92);
+    let (mut downhill, mut uphill, mut refused) = (0, 0, 0);
+    for round in 0..600 {
+        let (speed, purpose) = (random.within(20..=130), random.within(0..=5));
+        let grade = match round % 6 {
+            0 => 100 * random.signed_within(-15..=15),
+            1 => 10 * random.signed_within(-150..=150),
+            2 => random.one_of(&[-1_500, -1, 0, 1, 1_500]),
+            3 => random.one_of(&[-99_999, -1_501, 1_501, 99_999]),
+            _ => random.signed_within(-1_500..=1_500),
+        };
+        let expected = required_distance(speed, purpose, grade);
+        let (speed, purpose, grade_word) = (speed.to_string(), purpose.to_string(), percent(&mut random, grade));
+        let joined = format!("--grade={grade_word}");
+        let forms = [
+            vec!["distance", &speed, &purpose, "--grade", &grade_word],
+            vec!["distance", "--grade", &grade_word, &speed, &purpose],
+            vec!["distance", &speed, &joined, &purpose],
+            vec!["distance", &joined, "--", &speed, &purpose],
+        ];
+        let arguments = &forms[round / 6 % 4];
+        assert_eq!(answer(arguments), expected, "{arguments:?}");
+        refused += usize::from(expected == Err(10));
+        downhill += usize::from(expected.is_ok() && grade < 0);
+        uphill += usize::from(expected.is_ok() && grade > 0);
+    }
+    assert_eq!(refused, 100);
+    assert!(downhill > 150 && uphill > 150, "{downhill} downhill, {uphill} uphill");
+}
+
+/// A grade that is out of range is refused after the speed and the purpose, also one that 32 or 64 bits do not hold.
+#[test]
+fn refused_grades() {
+    for grade in [
+        "15.01",
+        "-15.01",
+        "16",
+        "-16",
+        "42949672.96",
+        "-42949672.96",
+        "21474836.48",
+        "-21474836.49",
+        "99999999999999999999",
+        "-99999999999999999999",
+    ] {
+        for (speed, purpose, refusal) in [("90", "0", 10), ("90", "5", 10), ("90", "6", 7), ("19", "6", 6)] {
+            let arguments = ["distance", speed, purpose, "--grade", grade];
+            assert_eq!(answer(&arguments), Err(refusal), "{arguments:?}");
+        }
+    }
+    for (grade, metres) in [("-15", 225), ("-15.00", 225), ("-6.00", 175), ("0", 160), ("-0", 160), ("15.0", 130)] {
+        assert_eq!(answer(&["distance", "90", "0", "--grade", grade]), Ok(metres), "{grade}");
     }
 }
 
@@ -60,6 +129,32 @@ fn lines_of_a_distance() {
     expect_wrong(&folder, &["distance", "80", "F"], "PURPOSE: \"F\" is no purpose: 0 to 5, stopping, or A to E");
     expect_wrong(&folder, &["distance", "--", "-80", "0"], "SPEED: \"-80\" is negative");
     expect_wrong(&folder, &["distance", "80", "0", "--eye", "1"], "there is no option --eye");
+}
+
+/// The same of a grade.
+#[test]
+fn lines_of_a_distance_on_a_grade() {
+    let folder = folder("distance_grades");
+    expect(&folder, &["distance", "90", "stopping", "--grade", "-6.00"], "175\n");
+    expect(&folder, &["distance", "90", "stopping", "--grade=-6.00"], "175\n");
+    let refused = "vcp distance: refused 10: a grade is not -1,500 to 1,500 hundredths of a percent (-15 to 15 %)\n";
+    expect_error(&folder, &["distance", "90", "stopping", "--grade", "-15.01"], 1, refused);
+    for (value, reason) in [
+        ("-6.001", "--grade: \"-6.001\" has more than 2 decimals"),
+        ("-6%", "--grade: \"-6%\" is no number"),
+        ("+6", "--grade: \"+6\" is no number"),
+        ("-", "--grade: \"-\" is no number"),
+        ("-.5", "--grade: \"-.5\" is no number"),
+        ("", "--grade: the number is missing"),
+        ("--6", "--grade needs PERCENT"),
+    ] {
+        expect_wrong(&folder, &["distance", "90", "0", "--grade", value], reason);
+    }
+    expect_wrong(&folder, &["distance", "90", "0", "--grade"], "--grade needs PERCENT");
+    expect_wrong(&folder, &["distance", "90", "0", "--grade=--6"], "--grade: \"--6\" is no number");
+    expect_wrong(&folder, &["distance", "90", "0", "--grade", "-6", "--grade=3"], "--grade stands twice");
+    expect_wrong(&folder, &["distance", "90", "0", "-6.00"], "there is no option -6.00");
+    expect_wrong(&folder, &["crest", "--drop", "6", "--speed", "90", "--grade", "3"], "there is no option --grade");
 }
 
 /// Hundredths or ten-thousandths as a decimal.
@@ -92,12 +187,12 @@ fn random_crests() {
     assert!(lengths > 100 && refused[15..].iter().all(|&many| many > 5), "{lengths}, {refused:?}");
 }
 
-/// With a speed the sight distance is its stopping distance; eye and object are those of roads.
+/// With a speed the sight distance is its stopping distance on the level; eye and object are those of roads.
 #[test]
 fn crests_for_a_speed() {
     for speed in [20, 50, 80, 90, 130] {
         for drop in [1, 100, 253, 254, 300, 600, 3_000] {
-            let sight = required_distance(speed, 0).expect("the speed is accepted");
+            let sight = required_distance(speed, 0, 0).expect("the speed is accepted");
             let expected = crest_length(Crest { drop, sight, eye: 10_800, object: 6_000 });
             let (drop, speed) = (decimal(drop, 100, 2), speed.to_string());
             assert_eq!(answer(&["crest", "--drop", &drop, "--speed", &speed]), expected, "{drop} {speed}");

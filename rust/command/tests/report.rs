@@ -9,7 +9,7 @@ use sight_tests::random::Random;
 use sight_tests::reference::distances::required_distance;
 use sight_tests::reference::file::bytes;
 use sight_tests::reference::marks::{marks, runs};
-use sight_tests::reference::road::{heights, Road};
+use sight_tests::reference::road::{heights, marking_grade, Road};
 use sight_tests::roads::{self, EXAMPLE};
 
 /// The report that the README shows, of a road by this name.
@@ -34,6 +34,8 @@ struct Said {
     stations: [u32; 2],
     speed: u32,
     purpose: char,
+    /// The grade in percent, as it is written.
+    grade: String,
     /// For stopping and the decision: needed, judged, lacking, not judged.
     sums: [[u32; 4]; 2],
     shares: [String; 2],
@@ -58,9 +60,13 @@ fn numbers(text: &str) -> Vec<u32> {
 fn read_back(name: &str, report: &str) -> Said {
     let mut lines = report.lines();
     let title = lines.next().and_then(|line| line.strip_prefix(name)).expect("the name stands first");
-    let [speed, from, to] = numbers(title)[..] else { panic!("{title}") };
-    let (_, purpose) = title.split_once("decision ").expect("the purpose is named");
-    assert!(title.ends_with(" (rising)"), "{title}");
+    let parts: Vec<&str> = title.split(", ").collect();
+    let [speed, purpose, grade, stretch] = parts[..] else { panic!("{title}") };
+    let speed = speed.strip_suffix(" km/h").and_then(|speed| speed.parse().ok()).expect("the speed");
+    let purpose = purpose.strip_prefix("decision ").expect("the purpose is named");
+    let grade = grade.strip_prefix("grade ").and_then(|grade| grade.strip_suffix(" %")).expect("the grade");
+    let [from, to] = numbers(stretch)[..] else { panic!("{title}") };
+    assert_eq!(stretch, format!("from station {from} to {to} (rising)"));
     let all = format!("of {} stations", to - from + 1);
     assert!(lines.next() == Some("") && lines.next().is_some_and(|line| line.starts_with(&all)), "{report}");
     let sums = ["stopping sight", "decision sight"].map(|words| {
@@ -86,7 +92,8 @@ fn read_back(name: &str, report: &str) -> Said {
     Said {
         stations: [from, to],
         speed,
-        purpose: purpose.chars().next().expect("a letter"),
+        purpose: purpose.parse().expect("a letter"),
+        grade: grade.to_string(),
         sums: [stopping.0, decision.0],
         shares: [stopping.1, decision.1],
         zones,
@@ -103,14 +110,19 @@ fn share(lacking: u32, judged: u32) -> String {
     format!("{}.{} %", tenths / 10, tenths % 10)
 }
 
+/// A grade in percent, written another way than the command does.
+fn percent(grade: i32) -> String {
+    format!("{}{}.{:02}", if grade < 0 { "-" } else { "" }, grade.abs() / 100, grade.abs() % 100)
+}
+
 /// What the second calculation says of heights, whose first is that of a station.
-fn second(speed: u32, purpose: u32, heights: &[i32], first: u32) -> Said {
+fn second(speed: u32, purpose: u32, grade: i32, heights: &[i32], first: u32) -> Said {
     let mut marked = vec![0; heights.len()];
-    marks(speed, purpose, heights, &mut marked).expect("the heights are marked");
+    marks(speed, purpose, grade, heights, &mut marked).expect("the heights are marked");
     let stations = |bit: u8| marked.iter().filter(|&&mark| mark >> bit & 1 == 1).count() as u32;
     let all = heights.len() as u32;
     let sum = |purpose: u32, bit: u8| {
-        let needed = required_distance(speed, purpose).expect("the speed is accepted");
+        let needed = required_distance(speed, purpose, grade).expect("the speed is accepted");
         [needed, all - stations(bit + 3), stations(bit), stations(bit + 3)]
     };
     let sums = [sum(0, 0), sum(purpose, 1)];
@@ -121,6 +133,7 @@ fn second(speed: u32, purpose: u32, heights: &[i32], first: u32) -> Said {
         stations: [first, first + all - 1],
         speed,
         purpose: char::from(b'A' + purpose as u8 - 1),
+        grade: percent(grade),
         sums,
         shares: sums.map(|[_, judged, lacking, _]| share(lacking, judged)),
         zones: (0..5).map(|bit| runs(&marked, bit).into_iter().map(zone).collect()).collect(),
@@ -146,20 +159,23 @@ fn any_judged_road(random: &mut Random, round: u32) -> Road {
 fn random_roads() {
     let folder = folder("report_random");
     let mut random = Random::new(85);
-    let (mut zones, mut lined) = (0, 0);
+    let (mut zones, mut lined, mut falling) = (0, 0, 0);
     for round in 0..600 {
         let road = any_judged_road(&mut random, round);
         let ended = run_with(&folder, &["report", "-"], &bytes(&road)).0;
         assert_eq!((ended.errors.as_str(), ended.status), ("", 0), "{road:?}");
         let said = read_back("-: ", &ended.output);
         zones += said.zones.iter().map(Vec::len).sum::<usize>();
-        assert_eq!(said, second(road.speed.into(), road.purpose.into(), &heights_of(&road), 0), "{road:?}");
+        let grade = marking_grade(&road);
+        falling += u32::from(grade < 0);
+        assert_eq!(said, second(road.speed.into(), road.purpose.into(), grade, &heights_of(&road), 0), "{road:?}");
         // Columns line up: the lines of zones that have numbers end in the same column.
         let ends: Vec<usize> = ended.output.lines().skip(6).filter(|line| line.ends_with(" m")).map(str::len).collect();
         assert!(ends.windows(2).all(|pair| pair[0] == pair[1]), "{}", ended.output);
         lined += ends.len();
     }
     assert!(zones > 1_000 && lined > 1_000, "{zones} zones on {lined} lines");
+    assert!((400..590).contains(&falling), "{falling} of 600 roads fall");
 }
 
 /// Several files: a report each with a line between, and a refused one has its line.
@@ -174,7 +190,7 @@ fn several_files() {
     assert_eq!(ended, Ended { output: format!("{report}\n{report}"), errors, status: 1 });
 }
 
-/// The heights that `vcp heights` writes are judged as their road is, whole or from any station on.
+/// The heights that `vcp heights` writes are judged as their road is, on the road's grade, whole or from any station on.
 #[test]
 fn check_of_a_road_as_built() {
     let folder = folder("check_random");
@@ -186,10 +202,13 @@ fn check_of_a_road_as_built() {
         let [speed, purpose, from_word] =
             [road.speed.into(), road.purpose.into(), from].map(|number| number.to_string());
         let survey = run_with(&folder, &["heights", "-", "--from", &from_word], &bytes(&road)).0.output;
-        let arguments = ["check", "-", "--speed", &speed, "--purpose", &purpose];
+        let grade = marking_grade(&road);
+        let grade_word = percent(grade);
+        let arguments = ["check", "-", "--speed", &speed, "--purpose", &purpose, "--grade", &grade_word];
         let ended = run_with(&folder, &arguments, survey.as_bytes()).0;
         assert_eq!((ended.errors.as_str(), ended.status), ("", 0), "{road:?}");
-        let expected = second(road.speed.into(), road.purpose.into(), &heights_of(&road)[from as usize..], from);
+        let heights = &heights_of(&road)[from as usize..];
+        let expected = second(road.speed.into(), road.purpose.into(), grade, heights, from);
         assert_eq!(read_back("-: ", &ended.output), expected, "{road:?}");
         if from == 0 {
             assert_eq!(ended.output, run_with(&folder, &["report", "-"], &bytes(&road)).0.output);
@@ -197,12 +216,12 @@ fn check_of_a_road_as_built() {
     }
 }
 
-/// Any surveyed heights, also those that no profile has.
+/// Any surveyed heights, also those that no profile has, on any grade; on the level where none is given.
 #[test]
 fn check_of_random_heights() {
     let folder = folder("check_heights");
     let mut random = Random::new(87);
-    for _ in 0..200 {
+    for round in 0..200 {
         let many = random.within(1..=200) as usize;
         let size = random.of_any_size(1 << 30) as i32;
         let heights: Vec<i32> = (0..many).map(|_| random.signed_within(-size..=size)).collect();
@@ -216,10 +235,15 @@ fn check_of_random_heights() {
         let speed = random.one_of(&[20, 30, 40]);
         let purpose = random.within(1..=5);
         let letter = ["A", "b", "decision-C", "Decision-d", "5"][purpose as usize - 1];
-        let arguments = ["check", "--purpose", letter, "-", "--speed", &speed.to_string()];
+        let grade = if round % 4 == 0 { 0 } else { random.signed_within(-1_500..=1_500) };
+        let (speed_word, given_grade) = (speed.to_string(), format!("--grade={}", percent(grade)));
+        let mut arguments = vec!["check", "--purpose", letter, "-", "--speed", &speed_word];
+        if round % 4 > 0 {
+            arguments.push(&given_grade);
+        }
         let ended = run_with(&folder, &arguments, survey.as_bytes()).0;
         assert_eq!((ended.errors.as_str(), ended.status), ("", 0), "{survey}");
-        assert_eq!(read_back("-: ", &ended.output), second(speed, purpose, &heights, first), "{survey}");
+        assert_eq!(read_back("-: ", &ended.output), second(speed, purpose, grade, &heights, first), "{survey}");
     }
 }
 
@@ -233,7 +257,7 @@ fn check_of_many_zones() {
     let ended = run_with(&folder, &["check", "-", "--speed", "20", "--purpose", "1"], survey.as_bytes()).0;
     let said = read_back("-: ", &ended.output);
     assert!(said.zones[0].len() > 190 && said.zones[2].len() > 190, "{} zones", said.zones[0].len());
-    assert_eq!(said, second(20, 1, &heights, 0));
+    assert_eq!(said, second(20, 1, 0, &heights, 0));
 }
 
 /// Each way of writing the same heights.
@@ -260,10 +284,8 @@ fn check_of_the_greatest_stations() {
     let folder = folder("check_greatest");
     let arguments = ["check", "-", "--speed", "20", "--purpose", "1"];
     let ended = run_with(&folder, &arguments, b"4294967295,0").0;
-    assert!(
-        ended.output.starts_with("-: 20 km/h, decision A, from station 4294967295 to 4294967295 (rising)\n"),
-        "{ended:?}"
-    );
+    let title = "-: 20 km/h, decision A, grade 0.00 %, from station 4294967295 to 4294967295 (rising)\n";
+    assert!(ended.output.starts_with(title), "{ended:?}");
     let ended = run_with(&folder, &arguments, b"4294967295,0\n4294967296,0").0;
     assert_eq!(ended.errors, "-:2: station: \"4294967296\" is out of range\n");
 }
@@ -313,23 +335,28 @@ fn faults_of_a_survey() {
     expect_error(&folder, &["check", "a.csv", "--speed", "20", "--purpose", "1"], 2, error);
 }
 
-/// The proved functions judge the speed, the purpose and the number of heights.
+/// The proved functions judge the speed, the purpose, the grade and the number of heights.
 #[test]
 fn refused_surveys() {
     let folder = folder("check_refused");
     let survey = |many: u32| (0..many).map(|station| format!("{station},0\n")).collect::<String>();
     let list = "a.csv: refused 19: the list of heights or marks is empty or longer than 8,001\n";
     let purpose = "a.csv: refused 7: the purpose is not 0 to 5, or that of a road is not 1 to 5\n";
-    for (many, speed, word, line) in [
-        (3, "19", "1", "a.csv: refused 6: the speed is not 20 to 130 km/h\n"),
-        (3, "20", "stopping", purpose),
-        (3, "20", "6", purpose),
-        (0, "20", "1", list),
-        (8_002, "20", "1", list),
-        (9_000, "20", "1", list),
+    let grade = "a.csv: refused 10: a grade is not -1,500 to 1,500 hundredths of a percent (-15 to 15 %)\n";
+    for (many, speed, word, percent, line) in [
+        (3, "19", "6", "16", "a.csv: refused 6: the speed is not 20 to 130 km/h\n"),
+        (3, "20", "stopping", "16", purpose),
+        (3, "20", "6", "-6", purpose),
+        (3, "20", "1", "-15.01", grade),
+        (0, "20", "5", "15.01", grade),
+        (3, "20", "5", "99999999999999999999", grade),
+        (0, "20", "1", "-15.00", list),
+        (8_002, "20", "1", "15", list),
+        (9_000, "20", "1", "0", list),
     ] {
         fs::write(folder.join("a.csv"), survey(many)).unwrap();
-        expect_error(&folder, &["check", "a.csv", "--speed", speed, "--purpose", word], 1, line);
+        let arguments = ["check", "a.csv", "--speed", speed, "--purpose", word, "--grade", percent];
+        expect_error(&folder, &arguments, 1, line);
     }
     fs::write(folder.join("a.csv"), survey(8_001)).unwrap();
     assert_eq!(run(&folder, &["check", "a.csv", "--speed", "20", "--purpose", "1"]).status, 0);
@@ -337,4 +364,21 @@ fn refused_surveys() {
     expect_wrong(&folder, &["check", "a.csv", "--purpose", "1"], "--speed is missing");
     let reason = "--purpose: \"F\" is no purpose: 0 to 5, stopping, or A to E";
     expect_wrong(&folder, &["check", "a.csv", "--speed", "20", "--purpose", "F"], reason);
+    let arguments = ["check", "none.csv", "--speed", "20", "--purpose", "1", "--grade", "-6.005"];
+    expect_wrong(&folder, &arguments, "--grade: \"-6.005\" has more than 2 decimals");
+    expect_wrong(&folder, &["check", "a.csv", "--speed", "-20", "--purpose", "1"], "--speed: \"-20\" is negative");
+}
+
+/// The grade of a road is the least of its grades, also where it is the last; no road has one uphill.
+#[test]
+fn grades_of_roads() {
+    let folder = folder("report_grades");
+    for (first, last, grade) in [(0, 0, "0.00"), (300, 1, "0.00"), (-5, 0, "-0.05"), (1_500, -1_234, "-12.34")] {
+        let mut file = EXAMPLE;
+        file[13..15].copy_from_slice(&i16::to_le_bytes(first));
+        file[20..22].copy_from_slice(&i16::to_le_bytes(last));
+        let ended = run_with(&folder, &["report", "-"], &file).0;
+        let title = format!("-: 20 km/h, decision A, grade {grade} %, from station 0 to 300 (rising)\n");
+        assert!(ended.output.starts_with(&title), "{ended:?}");
+    }
 }

@@ -1,7 +1,8 @@
 //! The proved operations that the van does not call, safe to call from the command `vcp` and from the tests: the functions
 //! of the crates `sight_exports`, `marks_exports`, `file_exports` and `listing_exports`.
 //!
-//! Units are those of docs/RULES.md: metres along the road, h-units (tenths of a millimetre) for heights, km/h.
+//! Units are those of docs/RULES.md: metres along the road, h-units (tenths of a millimetre) for heights, hundredths of a
+//! percent for grades, uphill positive, and km/h.
 //!
 //! Each function takes any input and ends: it answers, or refuses by one of the numbers of docs/RULES.md, and a refusal leaves a
 //! lent list as it was. A list that is filled has the answer as the number of places that were written; later ones stay.
@@ -53,6 +54,7 @@ extern "C" {
     fn vcp_marks(
         speed: u32,
         purpose: u32,
+        grade: i32,
         heights: *const i32,
         heights_length: usize,
         list: *mut u8,
@@ -61,6 +63,7 @@ extern "C" {
     fn vcp_zones(marks: *const u8, marks_length: usize, bit: u32, list: *mut u16, list_length: usize) -> i64;
     fn vcp_rewrite(file: *const u8, file_length: usize, out: *mut u8, out_length: usize) -> i64;
     fn vcp_file_heights(file: *const u8, file_length: usize, list: *mut i32, list_length: usize) -> i64;
+    fn vcp_file_descent(file: *const u8, file_length: usize) -> i64;
     fn vcp_list_road_file(file: *const u8, file_length: usize, text: *mut u8, text_length: usize) -> i64;
 }
 
@@ -98,15 +101,16 @@ pub fn sight_profile(heights: &[i32], look: Look, sights: &mut [u16]) -> Result<
     })
 }
 
-/// Marks each station of these heights, for a speed and a decision purpose. `vcp::mark_road_file` says what the bits mean.
+/// Marks each station of these heights, for a speed and a decision purpose, by the distances on a grade.
+/// `vcp::mark_road_file` says what the bits mean.
 ///
 /// # Errors
-/// Refused 6 if the speed is not 20 to 130, 7 if the purpose is not 1 to 5, 19 if the heights are none or more than
-/// [`GREATEST_LIST`], 14 if the list of marks is shorter than the heights.
-pub fn marks(speed: u32, purpose: u32, heights: &[i32], list: &mut [u8]) -> Result<u32, Refusal> {
+/// Refused 6 if the speed is not 20 to 130, 7 if the purpose is not 1 to 5, 10 if the grade is not -1,500 to 1,500, 19 if
+/// the heights are none or more than [`GREATEST_LIST`], 14 if the list of marks is shorter than the heights.
+pub fn marks(speed: u32, purpose: u32, grade: i32, heights: &[i32], list: &mut [u8]) -> Result<u32, Refusal> {
     // SAFETY: as for `sight_profile`.
     refusal::answer(unsafe {
-        vcp_marks(speed, purpose, heights.as_ptr(), heights.len(), list.as_mut_ptr(), list.len())
+        vcp_marks(speed, purpose, grade, heights.as_ptr(), heights.len(), list.as_mut_ptr(), list.len())
     })
 }
 
@@ -137,6 +141,18 @@ pub fn rewrite(file: &[u8], out: &mut [u8]) -> Result<u32, Refusal> {
 pub fn file_heights(file: &[u8], list: &mut [i32]) -> Result<u32, Refusal> {
     // SAFETY: as for `sight_profile`.
     refusal::answer(unsafe { vcp_file_heights(file.as_ptr(), file.len(), list.as_mut_ptr(), list.len()) })
+}
+
+/// Reads a road file and answers the grade that its road is marked with: the least of the road's grades, the first one
+/// included, or 0 if none is negative.
+///
+/// # Errors
+/// Refused 1 to 13 as reading the file refuses it.
+pub fn file_grade(file: &[u8]) -> Result<i32, Refusal> {
+    // SAFETY: as for `sight`.
+    let descent = refusal::answer(unsafe { vcp_file_descent(file.as_ptr(), file.len()) })?;
+    // The proved function answers how steeply the road falls, 0 to 1,500: a negative answer would be a refusal.
+    Ok(-(descent as i32))
 }
 
 /// Writes the listing of a road file, for a refused one the line of its refusal. A buffer of [`GREATEST_LISTING`] bytes holds

@@ -3,7 +3,7 @@
 use std::fmt::{self, Formatter};
 
 use crate::sheet::{multiples, step, BOTTOM, HEIGHT, LEFT, METRE, RIGHT, STATIONS, TOP, WIDTH};
-use crate::Picture;
+use crate::{decimal, Picture};
 
 // How many steps an axis has at most.
 const STATION_STEPS: i64 = 16;
@@ -46,9 +46,7 @@ impl Picture<'_> {
 
 /// A height in metres, with as many decimals as the step has.
 fn metres(height: i64, step: i64) -> String {
-    let sign = if height < 0 { "&#8722;" } else { "" };
-    let (whole, rest) = (height.abs() / METRE, height.abs() % METRE);
-    let decimals = METRE.ilog10().saturating_sub(step.ilog10()) as usize;
-    let point = if decimals > 0 { "." } else { "" };
-    format!("{sign}{whole}{point}{}", &format!("{rest:04}")[..decimals])
+    let decimals = METRE.ilog10();
+    let shown = decimals.saturating_sub(step.ilog10());
+    decimal(height, decimals as usize, shown as usize)
 }

@@ -34,6 +34,8 @@ pub struct Profile<'a> {
     pub speed: u32,
     /// The purpose of the decision: 1 to 5 for the decisions A to E.
     pub purpose: u32,
+    /// The grade that the distances are needed on, in hundredths of a percent.
+    pub grade: i32,
     /// The distance in metres that a driver needs to see for stopping.
     pub stopping: u32,
     /// The distance in metres that a driver needs to see for the decision.
@@ -58,15 +60,16 @@ pub struct Profile<'a> {
 /// let picture = svg(&Profile {
 ///     speed: 20,
 ///     purpose: 1,
-///     stopping: 20,
+///     grade: -1_500,
+///     stopping: 25,
 ///     decision: 25,
 ///     first_grade: 1_500,
 ///     curves: &[Curve { pvi: 100, length: 0, grade_out: -1_500 }],
 ///     heights: &heights,
-///     zones: &[vec![[83, 95]], vec![[78, 96]], vec![[78, 82], [96, 96]], vec![[281, 300]], vec![[276, 300]]],
+///     zones: &[vec![[78, 96]], vec![[78, 96]], vec![], vec![[276, 300]], vec![[276, 300]]],
 /// });
 /// assert!(picture.starts_with("<svg "));
-/// assert!(picture.contains("20 km/h: stopping sight 20 m, decision sight 25 m (purpose 1)"));
+/// assert!(picture.contains("20 km/h, grade &#8722;15.00 %: stopping sight 25 m, decision sight 25 m (purpose 1)"));
 /// ```
 pub fn svg(profile: &Profile) -> String {
     Picture { profile, sheet: Sheet::of(profile.heights) }.to_string()
@@ -113,14 +116,15 @@ impl Picture<'_> {
         writeln!(out, r##"<rect width="{SHEET_WIDTH}" height="{SHEET_HEIGHT}" fill="#fff"/>"##)
     }
 
-    /// The title, and below it the speed, the distances that it needs, and the exaggeration.
+    /// The title, and below it the speed, the grade, the distances that are needed, and the exaggeration.
     fn headings(&self, out: &mut Formatter) -> fmt::Result {
-        let Profile { speed, purpose, stopping, decision, .. } = self.profile;
+        let Profile { speed, purpose, grade, stopping, decision, .. } = *self.profile;
+        let grade = decimal(grade.into(), 2, 2);
         let Sheet { length, exaggeration, .. } = self.sheet;
         writeln!(out, "<title>Sight along the road, {length} m</title>")?;
         writeln!(out, r#"<text class="title" x="1500" y="4200">Sight along the road, {length} m</text>"#)?;
-        write!(out, r#"<text class="sub" x="1500" y="7000">{speed} km/h: stopping sight {stopping} m, "#)?;
-        write!(out, "decision sight {decision} m (purpose {purpose}); ")?;
+        write!(out, r#"<text class="sub" x="1500" y="7000">{speed} km/h, grade {grade} %: "#)?;
+        write!(out, "stopping sight {stopping} m, decision sight {decision} m (purpose {purpose}); ")?;
         write!(out, "sight in the direction of rising stations &#8594;; ")?;
         writeln!(out, r#"vertical exaggeration <tspan class="letter">{exaggeration} : 1</tspan></text>"#)
     }
@@ -132,4 +136,13 @@ impl Picture<'_> {
         writeln!(out, r#"<defs><polyline id="profile" points="{points}"/></defs>"#)?;
         writeln!(out, r#"<polygon class="earth" points="{LEFT},{BOTTOM}{points} {RIGHT},{BOTTOM}"/>"#)
     }
+}
+
+/// A number that is counted in units of its last decimal, with the first so many of its decimals.
+fn decimal(number: i64, decimals: usize, shown: usize) -> String {
+    let sign = if number < 0 { "&#8722;" } else { "" };
+    let digits = format!("{:0>least$}", number.abs(), least = decimals + 1);
+    let (whole, behind) = digits.split_at(digits.len() - decimals);
+    let point = if shown > 0 { "." } else { "" };
+    format!("{sign}{whole}{point}{}", &behind[..shown])
 }

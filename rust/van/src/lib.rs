@@ -2,16 +2,16 @@
 //! to call from Rust.
 //!
 //! ```
-//! // A driver at 80 km/h stops within 130 m.
-//! let sight = vcp::required_distance(80, 0)?;
+//! // A driver at 80 km/h on a level road stops within 130 m.
+//! let sight = vcp::required_distance(80, 0, 0)?;
 //! assert_eq!(sight, 130);
 //! // For the driver to see so far over a crest where the grade drops by 6 %, it is at least 156 m long.
 //! assert_eq!(vcp::crest_length(600, sight, 10_800, 6_000)?, 156);
 //! # Ok::<(), vcp::Refusal>(())
 //! ```
 //!
-//! Stations and lengths along the road are whole metres, speeds whole km/h, grades hundredths of a percent, and heights
-//! h-units, which are tenths of a millimetre.
+//! Stations and lengths along the road are whole metres, speeds whole km/h, grades hundredths of a percent, uphill
+//! positive, and heights h-units, which are tenths of a millimetre.
 //!
 //! Each function takes any input and ends: it answers, or refuses by one of the numbers of docs/RULES.md, and a refusal leaves a
 //! lent list as it was. None keeps anything between two calls, so each may be called from many threads at once.
@@ -41,12 +41,13 @@ pub const MOST_STATIONS: usize = 8_001;
 
 // A test compares these declarations with crates/van/src/lib.rt.
 extern "C" {
-    fn vcp_required_distance(speed: u32, purpose: u32) -> i32;
+    fn vcp_required_distance(speed: u32, purpose: u32, grade: i32) -> i32;
     fn vcp_crest_length(drop: u32, sight: u32, eye: u32, object: u32) -> i32;
     fn vcp_mark_road_file(file: *const u8, file_length: usize, marks: *mut u8, marks_length: usize) -> i32;
 }
 
-/// The distance in metres that a driver at a speed in km/h needs to see for a purpose.
+/// The distance in metres that a driver at a speed in km/h needs to see for a purpose, on a grade in hundredths of a
+/// percent, uphill positive. The decisions C to E need the same distance on every grade.
 ///
 /// | Purpose | Meaning |
 /// |---|---|
@@ -54,18 +55,24 @@ extern "C" {
 /// | 1 to 5 | decision A to E |
 ///
 /// # Errors
-/// Refused 6 if the speed is not 20 to 130, then 7 if the purpose is not 0 to 5.
+/// Refused 6 if the speed is not 20 to 130, then 7 if the purpose is not 0 to 5, then 10 if the grade is not -1,500 to
+/// 1,500, whatever the purpose is.
 ///
 /// ```
-/// assert_eq!(vcp::required_distance(80, 0), Ok(130));
-/// assert_eq!(vcp::required_distance(130, 5), Ok(525));
+/// assert_eq!(vcp::required_distance(80, 0, 0), Ok(130));
+/// assert_eq!(vcp::required_distance(130, 5, 0), Ok(525));
+/// // Downhill by 6 % the driver needs more, uphill less.
+/// assert_eq!(vcp::required_distance(90, 0, -600), Ok(175));
+/// assert_eq!(vcp::required_distance(90, 0, 0), Ok(160));
+/// assert_eq!(vcp::required_distance(90, 0, 600), Ok(145));
 ///
-/// let refusal = vcp::required_distance(131, 0).unwrap_err();
+/// let refusal = vcp::required_distance(131, 0, 0).unwrap_err();
 /// assert_eq!(refusal.number(), 6);
+/// assert_eq!(vcp::required_distance(90, 5, -1_501).unwrap_err().number(), 10);
 /// ```
-pub fn required_distance(speed: u32, purpose: u32) -> Result<u32, Refusal> {
-    // SAFETY: it takes any two numbers and touches no memory of the caller.
-    refusal::answer(unsafe { vcp_required_distance(speed, purpose) }.into())
+pub fn required_distance(speed: u32, purpose: u32, grade: i32) -> Result<u32, Refusal> {
+    // SAFETY: it takes any three numbers and touches no memory of the caller.
+    refusal::answer(unsafe { vcp_required_distance(speed, purpose, grade) }.into())
 }
 
 /// The least even length in metres of a crest over which an object is seen from a sight distance in metres. The drop in
@@ -93,6 +100,8 @@ pub fn crest_length(drop: u32, sight: u32, eye: u32, object: u32) -> Result<u32,
 /// beyond those stay as they were. Marks of [`MOST_STATIONS`] places are enough for any road. The call needs about 40 KiB of
 /// the thread's stack.
 ///
+/// The distances are those on the least of the road's grades, the first one included, or on grade 0 if none is negative.
+///
 /// The bits of a mark, each beside its letter in a listing:
 ///
 /// | Bit | Letter | Constant |
@@ -117,10 +126,10 @@ pub fn crest_length(drop: u32, sight: u32, eye: u32, object: u32) -> Result<u32,
 /// assert_eq!(vcp::mark_road_file(&file, &mut marks), Ok(301));
 ///
 /// let stations = |bit: u8| (0..301).filter(|&station| marks[station] & bit != 0).collect::<Vec<_>>();
-/// assert_eq!(stations(vcp::STOPPING_LACKING), (83..=95).collect::<Vec<_>>());
+/// assert_eq!(stations(vcp::STOPPING_LACKING), (78..=96).collect::<Vec<_>>());
 /// assert_eq!(stations(vcp::DECISION_LACKING), (78..=96).collect::<Vec<_>>());
-/// assert_eq!(stations(vcp::REDUCED_DECISION), [78, 79, 80, 81, 82, 96]);
-/// assert_eq!(stations(vcp::STOPPING_NOT_JUDGED), (281..=300).collect::<Vec<_>>());
+/// assert!(stations(vcp::REDUCED_DECISION).is_empty());
+/// assert_eq!(stations(vcp::STOPPING_NOT_JUDGED), (276..=300).collect::<Vec<_>>());
 /// assert_eq!(stations(vcp::DECISION_NOT_JUDGED), (276..=300).collect::<Vec<_>>());
 ///
 /// // One place too few, and a byte that is missing.

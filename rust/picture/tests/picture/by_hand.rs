@@ -12,7 +12,7 @@ const NO_ZONES: [Vec<[u16; 2]>; 5] = [const { Vec::new() }; 5];
 
 /// A profile with these heights, curves and zones. If it has 1,281 heights, its stations are drawn a pixel apart.
 fn profile<'a>(heights: &'a [i32], curves: &'a [Curve], zones: &'a [Vec<[u16; 2]>; 5]) -> Profile<'a> {
-    Profile { speed: 20, purpose: 1, stopping: 20, decision: 25, first_grade: 0, curves, heights, zones }
+    Profile { speed: 20, purpose: 1, grade: 0, stopping: 20, decision: 25, first_grade: 0, curves, heights, zones }
 }
 
 /// A filled hump over a crest, an open bowl over a sag, a triangle at a break, and nothing where the grade stays.
@@ -90,6 +90,25 @@ fn numbers_of_the_axes() {
     assert_eq!(stations(1_652), ["0", "200", "400", "600", "800", "1000", "1200", "1400", "1600", "1652"]);
 }
 
+/// The grade below the title is in percent, with two decimals.
+#[test]
+fn grades() {
+    for (grade, percent) in [
+        (0, "0.00"),
+        (-1, "&#8722;0.01"),
+        (-10, "&#8722;0.10"),
+        (-600, "&#8722;6.00"),
+        (-1_500, "&#8722;15.00"),
+        (5, "0.05"),
+        (1_234, "12.34"),
+        (i32::MIN, "&#8722;21474836.48"),
+        (i32::MAX, "21474836.47"),
+    ] {
+        let picture = svg(&Profile { grade, ..profile(&[0; 2], &[], &NO_ZONES) });
+        assert!(picture.contains(&format!(">20 km/h, grade {percent} %: stopping sight 20 m, decision")), "{grade}");
+    }
+}
+
 /// The largest exaggeration at which 1,280 m by so many h-units find room: 400 pixels are 400 m at 1 : 1.
 #[test]
 fn exaggerations() {
@@ -148,6 +167,7 @@ fn absurd_numbers() {
         let text = svg(&Profile {
             speed: u32::MAX,
             purpose: u32::MAX,
+            grade: random.one_of(&[i32::MIN, -1, i32::MAX]),
             stopping: 0,
             decision: u32::MAX,
             first_grade: i32::MIN,

@@ -47,11 +47,13 @@ fn compare(road: &Road) -> usize {
 fn compare_headings(road: &Road, drawn: &Drawn, plot: &Plot, text: &str) {
     let (length, speed, purpose) = (road.length, road.speed, road.purpose);
     let ([stopping, decision], exaggeration) = (drawn.distances, plot.exaggeration);
+    let minus = if drawn.grade < 0 { "&#8722;" } else { "" };
+    let grade = format!("{minus}{}.{:02} %", drawn.grade.abs() / 100, drawn.grade.abs() % 100);
     let distances = format!("stopping sight {stopping} m, decision sight {decision} m (purpose {purpose});");
     for words in [
         format!("<title>Sight along the road, {length} m</title>"),
         format!(">Sight along the road, {length} m</text>"),
-        format!(">{speed} km/h: {distances}"),
+        format!(">{speed} km/h, grade {grade}: {distances}"),
         format!("vertical exaggeration <tspan class=\"letter\">{exaggeration} : 1</tspan>"),
     ] {
         assert_eq!(text.matches(&words).count(), 1, "{words} of {road:?}");
