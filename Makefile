@@ -1,4 +1,4 @@
-# The kits that the crates are proved with, as `rt version` names them.
+# The kits that the gate takes, as `rt version` names them.
 KIT := rattle-kit-5b logic 064da1ca440f63e7
 PLAIN_KIT := rattle-kit-5b-plain logic 097e4c862dff5811
 

@@ -69,7 +69,7 @@ const ROUNDED_OTHERWISE: [(u32, i32, i128, Rounding); 11] = [
     (110, -900, 26_211, Rounding::Nearest),
     (120, -600, 28_122, Rounding::Nearest),
     (120, -900, 30_435, Rounding::Nearest),
-    // The table prints 302 m where 301 m are enough.
+    // The equation gives 300.52 m, and no rounding of it gives the 302 m that are printed.
     (130, -300, 30_051, Rounding::None),
     (130, 300, 26_703, Rounding::Nearest),
 ];
@@ -104,15 +104,18 @@ fn compare_all(speeds: &[u32], purposes: &[u32], grades: &[i32]) -> Tally {
     tally
 }
 
-/// All that is accepted. Nothing needs more than decision B at the greatest speed on the steepest downgrade.
+/// All that is accepted. Nothing needs more than decision B at the greatest speed on the steepest downgrade, and no distance is
+/// an exact multiple of 5 m before it is rounded.
 #[test]
 fn every_speed_purpose_and_grade() {
     let (mut distances, mut greatest) = (0, 0);
     for speed in 20..=130 {
         for purpose in 0..=5 {
             for grade in -1_500..=1_500 {
-                let answer = compare(speed, purpose, grade);
-                greatest = greatest.max(answer.expect("speed, purpose and grade are accepted"));
+                let metres = compare(speed, purpose, grade).expect("speed, purpose and grade are accepted");
+                let exact = exact_distance(speed, purpose as usize, grade);
+                assert!(exact < Fraction::whole(metres.into()), "speed {speed}, purpose {purpose}, grade {grade}");
+                greatest = greatest.max(metres);
                 distances += 1;
             }
         }

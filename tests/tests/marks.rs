@@ -73,32 +73,36 @@ fn random_roads_of_every_kind() {
     assert_eq!(bits.0[5..], [0; 3]);
 }
 
-/// Every speed and purpose, on a road that begins with a crest and is just long enough to be judged there for the decision.
-/// Where stopping needs more, some stations are judged for the decision alone.
+/// Every speed and purpose, marked on the level and on the steepest downgrade, on a road that begins with a crest and is just
+/// long enough to be judged there for the decision. Where stopping needs more, some stations are judged for the decision alone.
 #[test]
 fn every_speed_and_purpose() {
     let mut random = Random::new(29);
-    let mut bits = Bits::default();
-    let mut decision_alone = 0;
-    for speed in 20..=130 {
-        for purpose in 1..=5 {
-            let decision = required_distance(speed, purpose, -1_500).expect("speed and purpose are accepted");
-            let road = Road {
-                speed: speed as u8,
-                purpose: purpose as u8,
-                length: decision + 12,
-                start_height: 0,
-                first_grade: 1_500,
-                curves: vec![Curve { pvi: 9, length: 4, grade_out: -1_500 }],
-            };
-            let marks = compare_accepted(&mut random, &bytes(&road));
-            bits.count(&marks);
-            let not_judged = marks.iter().map(|mark| mark & (STOPPING_NOT_JUDGED | DECISION_NOT_JUDGED));
-            decision_alone += not_judged.filter(|&bits| bits == STOPPING_NOT_JUDGED).count();
+    let cases =
+        [(0, [900, 1_000, 150, 50_000, 100_000], 0..=0), (-1_500, [2_000, 2_000, 30, 50_000, 50_000], 81..=usize::MAX)];
+    for (grade_out, least, alone) in cases {
+        let mut bits = Bits::default();
+        let mut decision_alone = 0;
+        for speed in 20..=130 {
+            for purpose in 1..=5 {
+                let required = required_distance(speed, purpose, grade_out.into());
+                let road = Road {
+                    speed: speed as u8,
+                    purpose: purpose as u8,
+                    length: required.expect("speed and purpose are accepted") + 12,
+                    start_height: 0,
+                    first_grade: 1_500,
+                    curves: vec![Curve { pvi: 9, length: 4, grade_out }],
+                };
+                let marks = compare_accepted(&mut random, &bytes(&road));
+                bits.count(&marks);
+                let not_judged = marks.iter().map(|mark| mark & (STOPPING_NOT_JUDGED | DECISION_NOT_JUDGED));
+                decision_alone += not_judged.filter(|&bits| bits == STOPPING_NOT_JUDGED).count();
+            }
         }
+        assert!(bits.0.iter().zip(least).all(|(&many, least)| many > least), "{:?}", bits.0);
+        assert!(alone.contains(&decision_alone), "{decision_alone} stations");
     }
-    assert!(decision_alone > 80, "{decision_alone} stations");
-    assert!(bits.0.iter().zip([2_000, 2_000, 30, 50_000, 50_000]).all(|(&many, least)| many > least), "{:?}", bits.0);
 }
 
 /// Stations near the road's end are not judged: on a straight nothing is lacking, and the last R stations say so.

@@ -149,11 +149,10 @@ fn random_heights() {
             0 => any_heights(&mut random, stations),
             _ => uneven(&mut random, stations),
         };
-        let drive = Drive {
-            speed: random.within(20..=35),
-            purpose: random.within(1..=5),
-            grade: random.signed_within(-1_500..=1_500),
-        };
+        // A third are on the level, and some of these fast: at low speed the two formulas seldom differ.
+        let grade = if round % 3 == 0 { 0 } else { random.signed_within(-1_500..=1_500) };
+        let fastest = if round % 9 == 0 { 130 } else { 35 };
+        let drive = Drive { speed: random.within(20..=fastest), purpose: random.within(1..=5), grade };
         bits.count(&compare_all(&mut random, drive, &heights));
     }
     assert!(bits.0[..5].iter().all(|&many| many > 5_000), "{:?}", bits.0);

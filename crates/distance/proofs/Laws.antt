@@ -1,4 +1,4 @@
--- Laws of the required distance: what rounding up to 5 m is, and how large its numbers are.
+-- Laws of the required distance: what rounding up to 5 m is, what the distance on a grade is, and how large the numbers are.
 use mathlib.Core.Path.{_≡_, ap}
 use mathlib.Core.Bool.{Bool, true, false, not, cond, _&&_}
 use Prim.Native.Nat.{ℕ, _+_, _*_, _-_, _≤_, _<_, zero-le}
@@ -33,7 +33,7 @@ unfolding upToFive
 up-to-five-exact k den l = ap (λ (n : ℕ). 5 * n) (div-eq-of-lt-le (5 * den) (omega arith) (omega arith))
 
 -- ---- on a grade
--- the parts over 635,000 b are 278 V t / 10,000 + 9,810,000 V² / (254 b), with the numbers of equation (2) as they stand there
+-- the parts over 635,000 b are 278 V t / 10,000 + 9,810,000 V² / (254 b): equation (2) with its own numbers
 pub graded-parts-is : (v : ℕ) (p : Purpose) (b : ℕ) →
     gradedParts v p b * (10000 * (254 * b)) ≡ (278 * v * p .reaction * (254 * b) + 10000 * (9810000 * v * v)) * (635000 * b)
 unfolding gradedParts
@@ -43,9 +43,9 @@ graded-parts-is v p b = omega arith
 pub reaction-small : (p : ℕ) → purposeRow p .reaction ≤ 145
 reaction-small p = each-at (λ (row : Purpose). row .reaction ≤ 145) purposes p _ (omega arith) (λ _. omega arith)
 
-either : (b : Bool) {m n k : ℕ} → m ≤ k → n ≤ k → cond b m n ≤ k
-either true h l = h
-either false h l = l
+cond-at-most : (b : Bool) {m n k : ℕ} → m ≤ k → n ≤ k → cond b m n ≤ k
+cond-at-most true h l = h
+cond-at-most false h l = l
 
 -- on a level road at most 718 m
 pub level-parts-small : (v : ℕ) (p : Purpose) → v ≤ greatestSpeed → p .reaction ≤ 145 → levelParts v p ≤ 122040100
@@ -53,7 +53,7 @@ unfolding levelParts
 level-parts-small v p h k =
     let r = mul-le-mul h k in
     let b : 1950 * v * v ≤ 32955000 = omega (arith, mul-le-mul h h) in
-    omega (arith, either (p .braking) b zero-le)
+    omega (arith, cond-at-most (p .braking) b zero-le)
 
 -- on a grade b is positive, and from 1,928,500 to 4,871,500
 module _ (g : ℤ) (range : GradeIn g) where
@@ -66,7 +66,7 @@ module _ (g : ℤ) (range : GradeIn g) where
 
 -- so that the distance is at most 863 m
 pub graded-parts-small : (v : ℕ) (p : Purpose) (b : ℕ) → v ≤ greatestSpeed → p .reaction ≤ 145 → 1928500 ≤ b →
-    gradedParts v p b ≤ 547678936 * b
+    gradedParts v p b ≤ 863 * (635000 * b)
 unfolding gradedParts
 graded-parts-small v p b h k l =
     let reacting = mul-le-mul (mul-le-mul h k) (le-refl b) in
@@ -90,7 +90,7 @@ graded-at-most v p g h k range =
 pub metres-at-most : (v : ℕ) (p : Purpose) (g : ℤ) → v ≤ greatestSpeed → p .reaction ≤ 145 → GradeIn g → metresFor v p g ≤ 870
 unfolding metresFor
 metres-at-most v p g h k range =
-    either (p .braking && not (eqb (natAbs g) 0)) (graded-at-most v p g h k range) (level-at-most v p h k)
+    cond-at-most (p .braking && not (eqb (natAbs g) 0)) (graded-at-most v p g h k range) (level-at-most v p h k)
 
 pub required-at-most : (v p : ℕ) (g : ℤ) → AtMost 870 (requiredDistance v p g)
 unfolding requiredDistance

@@ -13,7 +13,7 @@ pub struct Purpose {
     pub braking: bool,
 }
 
-// What a speed needs to stop, and to decide for a purpose, in metres.
+// What a speed needs on a grade to stop, and to decide for a purpose, in metres.
 pub struct Distances {
     pub stopping: u32,
     pub decision: u32,
@@ -87,7 +87,7 @@ fn deceleration_parts(grade: i32) -> u64
     (3400000 + 981 * grade as i64) as u64
 }
 
-// The distance on a grade, braking counted, in metres.
+// The distance on a grade, braking counted: 0.278 V T + V² / (254 (3.4 / 9.81 + G)) metres, over the denominator 635,000 b.
 fn graded_metres(speed: u64, row: Purpose, grade: i32) -> u64
     requires { ⌜ (speed ≤ greatestSpeed) × (row .reaction ≤ 145) × (gradeOutside grade ≡ false) ⌝ }
     ensures { λ r. ⌜ r ≡ gradedMetres speed row grade ⌝ }

@@ -26,6 +26,6 @@ fileHeightsAnswer file list = unless (readVerdict file) (heightsAnswer (roadIn f
 unfoldable pub fileHeightsList : List ℕ → List ℤ → List ℤ
 fileHeightsList file list = keptUnless (readVerdict file) (heightsList (roadIn file) list) list
 
--- a file read and how steeply its road falls: the size of the grade that it is marked with, which is never positive
-unfoldable pub fileDescent : List ℕ → Answer
-fileDescent file = unless (readVerdict file) (Number (natAbs (roadGrade (roadIn file))))
+-- a file read and its road's steepest downgrade: the grade that the road is marked with, which is never positive, without its sign
+unfoldable pub fileDowngrade : List ℕ → Answer
+fileDowngrade file = unless (readVerdict file) (Number (natAbs (roadGrade (roadIn file))))

@@ -1,8 +1,8 @@
-// Road files exported for the command vcp and the tests: a file written again, and the heights and the descent of a file's road. An
-// answer is a signed number, and a refusal is minus its number.
+// Road files exported for the command vcp and the tests: a file written again, and the heights and the steepest downgrade of a file's
+// road. An answer is a signed number, and a refusal is minus its number.
 ghost use mathlib.Core.Path.{_≡_};
 ghost use Rattle.terms.specs.Answers.{signed};
-ghost use Rattle.file_exports.specs.FileExports.{rewriteAnswer, rewriteList, fileHeightsAnswer, fileHeightsList, fileDescent};
+ghost use Rattle.file_exports.specs.FileExports.{rewriteAnswer, rewriteList, fileHeightsAnswer, fileHeightsList, fileDowngrade};
 use terms::Answer;
 use terms::Verdict;
 
@@ -34,11 +34,11 @@ pub extern "C" fn vcp_file_heights(file: &[u8], list: &mut [i32]) -> i64
     terms::signed_answer(heights::heights(road, list))
 }
 
-// The grade that the road is marked with is never positive, and a negative answer would be a refusal: so it is answered with its sign
-// changed.
+// The grade that the road is marked with is never positive, and a negative answer would be a refusal: so it is answered without its
+// sign.
 #[no_mangle]
-pub extern "C" fn vcp_file_descent(file: &[u8]) -> i64
-    ensures { λ r. ⌜ r ≡ signed (fileDescent (now (file .entry))) ⌝ }
+pub extern "C" fn vcp_file_downgrade(file: &[u8]) -> i64
+    ensures { λ r. ⌜ r ≡ signed (fileDowngrade (now (file .entry))) ⌝ }
 {
     let read = file::read(file);
     let verdict = read.verdict;

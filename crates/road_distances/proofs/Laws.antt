@@ -7,7 +7,7 @@ use lib.Dec.{T}
 use lib.IntN.{ℤ, pos}
 use lib.Signed.{_≤ℤ_, _<ℤ_, ltZ, ltZ-yes, ltZ-no, leZ-yes, ≤ℤ-refl}
 use Rattle.whole.proofs.Ring.{≤ℤ-trans, ≤ℤ-of-<}
-use Rattle.whole.proofs.Table.{Each}
+use Rattle.whole.proofs.Table.{Each, each-map}
 use Rattle.terms.specs.declared.Verdict.the-variants.{Accepted}
 use Rattle.terms.proofs.Laws.{GradeIn}
 use Rattle.distance.proofs.Laws.{distances-at-most}
@@ -41,14 +41,10 @@ least-grade-is P [] z h = z
 least-grade-is P (g ∷ gs) z h = lesser-is P g (leastGrade gs) (h .0) (least-grade-is P gs z (h .1))
 
 -- it is not positive
-pub least-grade-low : (gs : List ℤ) → leastGrade gs ≤ℤ pos 0
+pub least-grade-not-positive : (gs : List ℤ) → leastGrade gs ≤ℤ pos 0
 unfolding leastGrade
-least-grade-low [] = ≤ℤ-refl (pos 0)
-least-grade-low (g ∷ gs) = ≤ℤ-trans (lesser-below g (leastGrade gs) .1) (least-grade-low gs)
-
-each-map : {P Q : ℤ → Type 0} → ((g : ℤ) → P g → Q g) → (gs : List ℤ) → Each P gs → Each Q gs
-each-map f [] h = tt
-each-map f (g ∷ gs) h = (f g (h .0), each-map f gs (h .1))
+least-grade-not-positive [] = ≤ℤ-refl (pos 0)
+least-grade-not-positive (g ∷ gs) = ≤ℤ-trans (lesser-below g (leastGrade gs) .1) (least-grade-not-positive gs)
 
 -- and no greater than any of them
 pub least-grade-below : (gs : List ℤ) → Each (λ (g : ℤ). leastGrade gs ≤ℤ g) gs

@@ -45,5 +45,6 @@ pub fn road_grade(road: Road) -> i32
 pub fn road_distances(road: Road) -> Distances
     ensures { λ r. ⌜ r ≡ roadDistances road ⌝ }
 {
-    distance::distances_for(road.speed as u32, road.purpose as u32, road_grade(road))
+    let grade = road_grade(road);
+    distance::distances_for(road.speed as u32, road.purpose as u32, grade)
 }

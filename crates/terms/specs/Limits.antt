@@ -16,8 +16,8 @@ stoppingPurpose = 0
 abbrev pub lastPurpose : ℕ
 lastPurpose = 5
 
--- a road: its decision purposes begin at 1; its length in metres, its start height in h-units, its grades in hundredths of a
--- percent up or down, its number of curves and the length of one in metres
+-- a road: its decision purposes begin at 1; its length in metres, its start height in h-units, its number of curves and the
+-- length of one in metres; and a grade, the road's or one that is handed over, in hundredths of a percent up or down
 abbrev pub firstDecision : ℕ
 firstDecision = 1
 

@@ -74,8 +74,8 @@ pub const STOPPING_PURPOSE: u32 = 0;
 
 pub const LAST_PURPOSE: u32 = 5;
 
-// A road: its decision purposes begin at 1; its length in metres, its start height in h-units, its grades in hundredths
-// of a percent up or down, its number of curves and the length of one in metres.
+// A road: its decision purposes begin at 1; its length in metres, its start height in h-units, its number of curves and the
+// length of one in metres; and a grade, the road's or one that is handed over, in hundredths of a percent up or down.
 pub const FIRST_DECISION: u32 = 1;
 
 pub const GREATEST_ROAD: u32 = 8000;

@@ -20,13 +20,14 @@ plain f = toZ-ofZ f
 pub got : (w : Width) (z : ℤ) → mag z < 2 ^ hbits w → toZ w (ofZ w z) ≡ z
 got w z h = toZ-ofZ record { sfits = h }
 
--- of a number that was cast to a width that is no narrower, and what that cast asks
-module _ (w v : Width) (z : ℤ) (h : mag z < 2 ^ hbits w) (wider : T (leb (hbits w) (hbits v))) where
-  pub widened-fits : SFits v (toZ w (ofZ w z))
-  widened-fits = sfits-widen {w = w} {w′ = v} wider (rw (got w z h) record { sfits = h })
+-- of a number that is cast to a width that is no narrower: what the cast asks, and what it gives
+abbrev pub Widens : Width → Width → ℤ → Type 0
+Widens w v z = let narrow = toZ w (ofZ w z) in SFits v narrow × (toZ v (ofZ v narrow) ≡ z)
 
-  pub widened : toZ v (ofZ v (toZ w (ofZ w z))) ≡ z
-  widened = plain widened-fits ∙ got w z h
+pub widens : (w v : Width) (z : ℤ) → mag z < 2 ^ hbits w → T (leb (hbits w) (hbits v)) → Widens w v z
+widens w v z h wider =
+    let fits : SFits v (toZ w (ofZ w z)) = sfits-widen {w = w} {w′ = v} wider (rw (got w z h) record { sfits = h }) in
+    (fits, plain fits ∙ got w z h)
 
 -- ---- a test's flag, of numbers that are known
 not-le : (a b : ℤ) → T (not (leZ a b)) → T (ltZ b a)

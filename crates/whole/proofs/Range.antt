@@ -7,7 +7,7 @@ use mathlib.Core.Path.{_≡_, refl, ap, ap₂, _∙_}
 use mathlib.Core.Bool.{Bool, true, false, not, _&&_}
 use Prim.Native.Nat.{ℕ, zero, suc, _+_, _*_, _-_, _≤_, _<_, _^_}
 use native.Mathlib.Omega.{arith}
-use native.Mathlib.Nat.{mul-le-mul, one-le-pow}
+use native.Mathlib.Nat.{le-refl, mul-le-mul, one-le-pow}
 use lib.Dec.{T, ltb, ltb→lt, nltb→le}
 use lib.IntN.{ℤ, pos, negsuc, negℤ, natAbs, _+ℤ_, _*ℤ_}
 use lib.Signed.{mag, leZ, ltZ, natAbs-le, _≤ℤ_}
@@ -145,9 +145,12 @@ readR w {m} {z} u = record {
 abbrev pub leafR : (w : Width) {z : ℤ} → SFits w z → Reads (toZ w (ofZ w z)) z
 leafR w f = record { size = leafB w f; good = true; same = λ t. toZ-ofZ f }
 
--- a natural, as a literal is, and a count
-abbrev pub natR : {k : ℕ} (b : ℕ) → k ≤ b → Reads (pos k) (pos k)
+abbrev natR : {k : ℕ} (b : ℕ) → k ≤ b → Reads (pos k) (pos k)
 natR b h = record { size = natB b h; good = true; same = λ t. refl }
+
+-- a literal, and a count
+abbrev pub literalR : (n : ℕ) → Reads (pos n) (pos n)
+literalR n = natR n (le-refl n)
 
 abbrev pub countR : (w : Width) (n b : ℕ) → n ≤ b → Reads (toZ w n) (pos n)
 countR w n b h = readR w {m = pos n} (natR b h)

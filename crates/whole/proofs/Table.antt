@@ -13,3 +13,8 @@ module _ {A : Type 0} (P : A → Type 0) where
   each-at [] i behind h k = k (omega arith)
   each-at (x ∷ xs) zero behind h k = h .0
   each-at (x ∷ xs) (suc i) behind h k = each-at xs i behind (h .1) (λ l. k (omega arith))
+
+-- what follows of each entry
+pub each-map : {A : Type 0} {P Q : A → Type 0} → ((x : A) → P x → Q x) → (xs : List A) → Each P xs → Each Q xs
+each-map f [] h = tt
+each-map f (x ∷ xs) h = (f x (h .0), each-map f xs (h .1))

@@ -121,8 +121,8 @@ where the object is hidden first, at the farthest distance, or with the road.",
 HEIGHTS is CSV as 'vcp heights' writes it, with or without the header: on each
 line a station and its height in m, with at most four decimals, one line a
 metre, at most 8001 of them. The first station may be any. A gap, a station
-twice or a line that cannot be read is an error with its line. The distances are
-those on the given grade; 'vcp report' says which grade a road is judged on.",
+twice or a line that cannot be read is an error with its line. Without --grade
+the road is taken as level: give the grade that 'vcp report' names for it.",
         operands: Operands { names: &["HEIGHTS"], more: false },
         options: &[
             needed("--speed", "KMH", "the speed in km/h"),
@@ -187,7 +187,8 @@ every grade.",
         details: "\
 The least even length over which the object is seen from the sight distance. One
 of --sight and --speed is given: with --speed the sight distance is the stopping
-distance of that speed on the level.",
+distance of that speed on the level. For a road that falls give --sight, with
+what 'vcp distance' prints for --grade.",
         operands: Operands { names: &[], more: false },
         options: &[
             needed("--drop", "PERCENT", "how much the grade falls, as 6.00"),

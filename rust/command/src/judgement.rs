@@ -14,7 +14,7 @@ pub type Zones = [Vec<[u16; 2]>; 5];
 pub struct Judgement {
     pub speed: u32,
     pub purpose: u32,
-    /// The grade that the distances are needed on, in hundredths of a percent.
+    /// The grade that the stations are marked with, in hundredths of a percent.
     pub grade: i32,
     pub stopping: u32,
     pub decision: u32,

@@ -82,5 +82,9 @@ pub fn report(name: &str, judgement: &Judgement, first_station: u32) -> String {
     zones.extend((0..MEANINGS.len()).flat_map(|zone| zone_rows(judgement, zone, first_station)));
     let (purpose, grade) = (purpose::name(purpose), decimal::write(grade.into(), 2, 2));
     let stretch = format!("from station {first_station} to {last_station} (rising)");
-    format!("{name}: {speed} km/h, {purpose}, grade {grade} %, {stretch}\n\n{}\n{}", lined_up(&sums), lined_up(&zones))
+    format!(
+        "{name}: {speed} km/h, {purpose}, marked with grade {grade} %, {stretch}\n\n{}\n{}",
+        lined_up(&sums),
+        lined_up(&zones)
+    )
 }

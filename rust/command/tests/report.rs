@@ -64,7 +64,7 @@ fn read_back(name: &str, report: &str) -> Said {
     let [speed, purpose, grade, stretch] = parts[..] else { panic!("{title}") };
     let speed = speed.strip_suffix(" km/h").and_then(|speed| speed.parse().ok()).expect("the speed");
     let purpose = purpose.strip_prefix("decision ").expect("the purpose is named");
-    let grade = grade.strip_prefix("grade ").and_then(|grade| grade.strip_suffix(" %")).expect("the grade");
+    let grade = grade.strip_prefix("marked with grade ").and_then(|grade| grade.strip_suffix(" %")).expect("the grade");
     let [from, to] = numbers(stretch)[..] else { panic!("{title}") };
     assert_eq!(stretch, format!("from station {from} to {to} (rising)"));
     let all = format!("of {} stations", to - from + 1);
@@ -284,7 +284,7 @@ fn check_of_the_greatest_stations() {
     let folder = folder("check_greatest");
     let arguments = ["check", "-", "--speed", "20", "--purpose", "1"];
     let ended = run_with(&folder, &arguments, b"4294967295,0").0;
-    let title = "-: 20 km/h, decision A, grade 0.00 %, from station 4294967295 to 4294967295 (rising)\n";
+    let title = "-: 20 km/h, decision A, marked with grade 0.00 %, from station 4294967295 to 4294967295 (rising)\n";
     assert!(ended.output.starts_with(title), "{ended:?}");
     let ended = run_with(&folder, &arguments, b"4294967295,0\n4294967296,0").0;
     assert_eq!(ended.errors, "-:2: station: \"4294967296\" is out of range\n");
@@ -378,7 +378,7 @@ fn grades_of_roads() {
         file[13..15].copy_from_slice(&i16::to_le_bytes(first));
         file[20..22].copy_from_slice(&i16::to_le_bytes(last));
         let ended = run_with(&folder, &["report", "-"], &file).0;
-        let title = format!("-: 20 km/h, decision A, grade {grade} %, from station 0 to 300 (rising)\n");
+        let title = format!("-: 20 km/h, decision A, marked with grade {grade} %, from station 0 to 300 (rising)\n");
         assert!(ended.output.starts_with(&title), "{ended:?}");
     }
 }

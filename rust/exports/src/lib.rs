@@ -63,7 +63,7 @@ extern "C" {
     fn vcp_zones(marks: *const u8, marks_length: usize, bit: u32, list: *mut u16, list_length: usize) -> i64;
     fn vcp_rewrite(file: *const u8, file_length: usize, out: *mut u8, out_length: usize) -> i64;
     fn vcp_file_heights(file: *const u8, file_length: usize, list: *mut i32, list_length: usize) -> i64;
-    fn vcp_file_descent(file: *const u8, file_length: usize) -> i64;
+    fn vcp_file_downgrade(file: *const u8, file_length: usize) -> i64;
     fn vcp_list_road_file(file: *const u8, file_length: usize, text: *mut u8, text_length: usize) -> i64;
 }
 
@@ -150,9 +150,9 @@ pub fn file_heights(file: &[u8], list: &mut [i32]) -> Result<u32, Refusal> {
 /// Refused 1 to 13 as reading the file refuses it.
 pub fn file_grade(file: &[u8]) -> Result<i32, Refusal> {
     // SAFETY: as for `sight`.
-    let descent = refusal::answer(unsafe { vcp_file_descent(file.as_ptr(), file.len()) })?;
-    // The proved function answers how steeply the road falls, 0 to 1,500: a negative answer would be a refusal.
-    Ok(-(descent as i32))
+    let downgrade = refusal::answer(unsafe { vcp_file_downgrade(file.as_ptr(), file.len()) })?;
+    // The proved function answers the grade without its sign: it is never positive, and a negative answer would be a refusal.
+    Ok(-(downgrade as i32))
 }
 
 /// Writes the listing of a road file, for a refused one the line of its refusal. A buffer of [`GREATEST_LISTING`] bytes holds

@@ -34,7 +34,7 @@ pub struct Profile<'a> {
     pub speed: u32,
     /// The purpose of the decision: 1 to 5 for the decisions A to E.
     pub purpose: u32,
-    /// The grade that the distances are needed on, in hundredths of a percent.
+    /// The grade that the road is marked with, in hundredths of a percent.
     pub grade: i32,
     /// The distance in metres that a driver needs to see for stopping.
     pub stopping: u32,
@@ -69,7 +69,7 @@ pub struct Profile<'a> {
 ///     zones: &[vec![[78, 96]], vec![[78, 96]], vec![], vec![[276, 300]], vec![[276, 300]]],
 /// });
 /// assert!(picture.starts_with("<svg "));
-/// assert!(picture.contains("20 km/h, grade &#8722;15.00 %: stopping sight 25 m, decision sight 25 m (purpose 1)"));
+/// assert!(picture.contains("20 km/h, marked with grade &#8722;15.00 %: stopping sight 25 m, decision sight 25 m (purpose 1)"));
 /// ```
 pub fn svg(profile: &Profile) -> String {
     Picture { profile, sheet: Sheet::of(profile.heights) }.to_string()
@@ -123,7 +123,7 @@ impl Picture<'_> {
         let Sheet { length, exaggeration, .. } = self.sheet;
         writeln!(out, "<title>Sight along the road, {length} m</title>")?;
         writeln!(out, r#"<text class="title" x="1500" y="4200">Sight along the road, {length} m</text>"#)?;
-        write!(out, r#"<text class="sub" x="1500" y="7000">{speed} km/h, grade {grade} %: "#)?;
+        write!(out, r#"<text class="sub" x="1500" y="7000">{speed} km/h, marked with grade {grade} %: "#)?;
         write!(out, "stopping sight {stopping} m, decision sight {decision} m (purpose {purpose}); ")?;
         write!(out, "sight in the direction of rising stations &#8594;; ")?;
         writeln!(out, r#"vertical exaggeration <tspan class="letter">{exaggeration} : 1</tspan></text>"#)

@@ -14,6 +14,7 @@ const LABELS: i64 = 20;
 /// The profile's line in the parts that are cut out of it.
 const ROAD: &str = r##"<use href="#profile" class="road ns" clip-path="url(#ns)"/>
 <use href="#profile" class="road" clip-path="url(#judged)"/>
+<use href="#profile" class="road D" clip-path="url(#D)"/>
 <use href="#profile" class="road R" clip-path="url(#R)"/>
 <use href="#profile" class="road S" clip-path="url(#S)"/>
 "##;
@@ -27,12 +28,13 @@ impl Picture<'_> {
         writeln!(out, "</g>")
     }
 
-    /// The road: dark where it is judged, dashed where it is not, and thick along the zones S and R.
+    /// The road: dark where stopping is judged, dashed where it is not, and thick along the zones S, R and D. Of these D is the
+    /// lowest: it shows where the decision is judged and stopping is not.
     pub fn road(&self, out: &mut Formatter) -> fmt::Result {
-        let [lacking, _, reduced, not_judged, _] = self.profile.zones;
+        let [lacking, decision_lacking, reduced, not_judged, _] = self.profile.zones;
         let right = not_judged.first().map_or(RIGHT, |&[first, _]| self.sheet.zone_left(first));
         writeln!(out, r#"<clipPath id="judged"><path d="M0 0H{right}V{SHEET_HEIGHT}H0Z"/></clipPath>"#)?;
-        for (id, zones) in [("S", lacking), ("R", reduced), ("ns", not_judged)] {
+        for (id, zones) in [("S", lacking), ("R", reduced), ("D", decision_lacking), ("ns", not_judged)] {
             writeln!(out, r#"<clipPath id="{id}">"#)?;
             self.bars(out, zones, TOP, HEIGHT)?;
             writeln!(out, "</clipPath>")?;

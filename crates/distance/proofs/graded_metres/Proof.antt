@@ -6,6 +6,7 @@ use borrow.Author.Needs.{needs}
 use native.Mathlib.Omega.{arith}
 use native.Mathlib.Nat.{mul-le-mul}
 use Rattle.whole.proofs.Machine.{plain}
+use Rattle.terms.specs.Limits.{greatestSpeed}
 use Rattle.terms.proofs.Laws.{grade-in}
 use Rattle.distance.specs.Distance.{decelerationParts, gradedParts, gradedMetres}
 use Rattle.distance.proofs.Laws.{deceleration-in, graded-parts-small}
@@ -29,10 +30,10 @@ module _ (c : tie.After-deceleration-parts) where
   b-in : (1928500 ≤ b) × (b ≤ 4871500)
   b-in = let d = deceleration-in _ (grade-in (s .args .grade) (s .pre .2)) in rw b-is (d .1, d .2)
 
-  reacting-small : s .args .speed * s .args .row .reaction ≤ 18850
+  reacting-small : s .args .speed * s .args .row .reaction ≤ greatestSpeed * 145
   reacting-small = mul-le-mul (s .pre .0) (s .pre .1)
 
-  parts-small : gradedParts (s .args .speed) (s .args .row) b ≤ 547678936 * 4871500
+  parts-small : gradedParts (s .args .speed) (s .args .row) b ≤ 863 * (635000 * 4871500)
   parts-small = omega (arith, graded-parts-small (s .args .speed) (s .args .row) b (s .pre .0) (s .pre .1) (b-in .0), b-in .1)
 
 mul-parts : tie.Need-mul-parts

@@ -24,7 +24,8 @@ returns : tie.Need-returns
 unfolding metresFor
 returns c =
     let s = c .before .before .before in
-    simp (tested s ∙ c .before .if1 .taken) (c .graded-metres .ensures ∙ ap (gradedMetres (s .args .speed) (s .args .row)) (plain (s .fits .grade)))
+    simp (tested s ∙ c .before .if1 .taken)
+    (c .graded-metres .ensures ∙ ap (gradedMetres (s .args .speed) (s .args .row)) (plain (s .fits .grade)))
 
 level-metres-requires : tie.Need-level-metres-requires
 level-metres-requires c κs = search needs

@@ -1,7 +1,7 @@
 -- `required_distance` meets its contract: each `return` rewrites the definition by the tests that led to it.
 use mathlib.Core.Path.{_≡_, ap, sym, _∙_}
 use mathlib.Core.Bool.{false}
-use Prim.Native.Nat.{_≤_}
+use Prim.Native.Nat.{ℕ, _≤_}
 use borrow.Author.Needs.{needs}
 use borrow.Author.Tests.{lt-ltb, le-ltb}
 use native.Mathlib.Omega.{arith}
@@ -10,6 +10,7 @@ use Rattle.terms.specs.Answers.{outside, gradeOutside}
 use Rattle.terms.specs.Limits.{leastSpeed, greatestSpeed}
 use Rattle.terms.specs.declared.Answer.the-variants.{Number}
 use Rattle.terms.proofs.Laws.{not-outside-in, grade-in}
+use Rattle.distance.specs.declared.Purpose.{Purpose}
 use Rattle.distance.specs.Distance.{requiredDistance, purposeRow, metresFor}
 use Rattle.distance.proofs.Laws.{reaction-small, metres-at-most}
 use Rattle.distance.proofs.required_distance.Statement.{statement}
@@ -54,6 +55,12 @@ module _ (c : tie.Else3) where
   abbrev start : tie.Start
   start = c .before .before .before .before .before
 
+  abbrev row : Purpose
+  row = purposeRow (start .args .purpose)
+
+  abbrev asked : ℕ
+  asked = metresFor (start .args .speed) row (start .args .grade)
+
   speed-passed : outside leastSpeed greatestSpeed (start .args .speed) ≡ false
   speed-passed = let speed = c .before .before .before in sym (speed .before .outside .ensures) ∙ speed .if1 .left
 
@@ -63,22 +70,25 @@ module _ (c : tie.Else3) where
   speed-small : start .args .speed ≤ greatestSpeed
   speed-small = not-outside-in leastSpeed greatestSpeed (start .args .speed) speed-passed .1
 
+  reaction-in-row : row .reaction ≤ 145
+  reaction-in-row = reaction-small (start .args .purpose)
+
+  asked-small : asked ≤ 870
+  asked-small = metres-at-most (start .args .speed) row (start .args .grade) speed-small reaction-in-row (grade-in _ grade-passed)
+
 metres-for-requires : tie.Need-metres-for-requires
 metres-for-requires c κs =
     let past = c .before in
-    (speed-small past, reaction-small (start past .args .purpose), rw (plain (start past .fits .grade)) (grade-passed past))
+    (speed-small past, reaction-in-row past, rw (plain (start past .fits .grade)) (grade-passed past))
 
--- the metres are the definition's
-metres-are : (c : tie.After-metres-for) → let a = start (c .before .before) .args in c .metres-for .result ≡ metresFor (a .speed) (purposeRow (a .purpose)) (a .grade)
+-- the metres are what is asked for
+metres-are : (c : tie.After-metres-for) → c .metres-for .result ≡ asked (c .before .before)
 metres-are c =
-    let s = start (c .before .before) in
-    c .metres-for .ensures ∙ ap (metresFor (s .args .speed) (purposeRow (s .args .purpose))) (plain (s .fits .grade))
+    let past = c .before .before in let s = start past in
+    c .metres-for .ensures ∙ ap (metresFor (s .args .speed) (row past)) (plain (s .fits .grade))
 
 cast-t21 : tie.Need-cast-t21
-cast-t21 c =
-    let past = c .before .before in let a = start past .args in
-    let small = metres-at-most (a .speed) (purposeRow (a .purpose)) (a .grade) (speed-small past) (reaction-small (a .purpose)) (grade-in _ (grade-passed past)) in
-    record { fits = omega (arith, metres-are c, small) }
+cast-t21 c = record { fits = omega (arith, metres-are c, asked-small (c .before .before)) }
 
 returns-4 : tie.Need-returns-4
 unfolding requiredDistance

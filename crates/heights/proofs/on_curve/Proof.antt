@@ -10,7 +10,7 @@ use mir.Syntax.{w16, w64}
 use mir.Val.{toZ, ofZ}
 use Rattle.whole.specs.Floor.{floorDiv}
 use Rattle.whole.proofs.Floor.{floorR}
-use Rattle.whole.proofs.Range.{Reads, natR, countR, mulR, fits-by, same-by, sizes}
+use Rattle.whole.proofs.Range.{Reads, literalR, countR, mulR, fits-by, same-by, sizes}
 use Rattle.whole.proofs.Range.{reads as reading}
 use Rattle.terms.specs.Limits.{greatestGrade, greatestCurve}
 use Rattle.heights.proofs.Along.{WalkRead, grade-out-size, walk-read, out-read, bend-size, curve-floor}
@@ -26,8 +26,7 @@ module _ (s : tie.Start) where
 
   abbrev divisor : Reads (pos 2 *ℤ toZ w64 (s .args .c .length)) (pos (2 * s .args .c .length))
   divisor =
-      let two = natR {k = 2} 2 (omega arith) in
-      mulR {y = pos (s .args .c .length)} two (countR w64 (s .args .c .length) greatestCurve (omega arith))
+      mulR {y = pos (s .args .c .length)} (literalR 2) (countR w64 (s .args .c .length) greatestCurve (omega arith))
 
 cast-x : tie.Need-cast-x
 cast-x c = search needs

@@ -5,7 +5,7 @@ use borrow.Author.Needs.{needs}
 use borrow.Author.Tests.{lt-ltb, le-ltb}
 use lib.Dec.{ltb}
 use mir.Syntax.{w16, w32}
-use Rattle.whole.proofs.Machine.{widened-fits, widened}
+use Rattle.whole.proofs.Machine.{Widens, widens}
 use Rattle.terms.specs.Answers.{gradeOutside, fault}
 use Rattle.terms.specs.Refusals.{curvePlaceRefused, curveOrderRefused}
 use Rattle.terms.specs.declared.Verdict.the-variants.{Accepted}
@@ -13,14 +13,18 @@ use Rattle.road.specs.Road.{begin, end, curveVerdict}
 use Rattle.road.proofs.curve_verdict.Statement.{statement}
 use Rattle.road.proofs.curve_verdict.Tie as tie
 
+-- the grade, as it is cast
+grade : (c : tie.After-struct-told) → Widens w16 w32 (c .before .before .args .c .«grade_out»)
+grade c = widens w16 w32 _ (c .struct-told .given .1 .1 .0 .1) tt
+
 cast-grade : tie.Need-cast-grade
-cast-grade c = widened-fits w16 w32 (c .before .before .args .c .«grade_out») (c .struct-told .given .1 .1 .0 .1) tt
+cast-grade c = grade c .0
 
 grade-outside-requires : tie.Need-grade-outside-requires
 grade-outside-requires c κs = search needs
 
 grade-tested : (c : tie.After-grade-outside) → gradeOutside (c .before .before .before .args .c .«grade_out») ≡ c .grade-outside .result
-grade-tested c = sym (rw (widened w16 w32 _ (c .before .struct-told .given .1 .1 .0 .1) tt) at (c .grade-outside .ensures))
+grade-tested c = sym (rw (grade (c .before) .1) at (c .grade-outside .ensures))
 
 returns : tie.Need-returns
 unfolding curveVerdict

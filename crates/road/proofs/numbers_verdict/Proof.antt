@@ -3,7 +3,7 @@
 use mathlib.Core.Path.{_≡_, sym, _∙_}
 use borrow.Author.Needs.{needs}
 use mir.Syntax.{w16, w32}
-use Rattle.whole.proofs.Machine.{got, widened-fits, widened}
+use Rattle.whole.proofs.Machine.{got, Widens, widens}
 use Rattle.terms.specs.Answers.{outsideℤ, gradeOutside, fault}
 use Rattle.terms.specs.Limits.{lowestStart, highestStart}
 use Rattle.terms.specs.Refusals.{startRefused, gradeRefused}
@@ -76,8 +76,12 @@ module _ (c : tie.Else3) where
 returns-4 : tie.Need-returns-4
 returns-4 c = sym (past-length (c .before .before) ∙ simp (rw (got w32 _ (c .before .struct-told .given .1 .1 .1 .0 .1)) at (c .if4 .taken)))
 
+-- the first grade, as it is cast
+first-grade : (c : tie.After-struct-told2) → Widens w16 w32 (given (c .before .before .before .before) .«first_grade»)
+first-grade c = widens w16 w32 _ (c .struct-told2 .given .1 .1 .1 .1 .0 .1) tt
+
 cast-grade : tie.Need-cast-grade
-cast-grade c = widened-fits w16 w32 (given (c .before .before .before .before) .«first_grade») (c .struct-told2 .given .1 .1 .1 .1 .0 .1) tt
+cast-grade c = first-grade c .0
 
 grade-outside-requires : tie.Need-grade-outside-requires
 grade-outside-requires c κs = search needs
@@ -90,7 +94,7 @@ past-start c =
     past-length (start .before .before)
     ∙ simp (
       rw (got w32 _ (start .before .struct-told .given .1 .1 .1 .0 .1)) at (start .if4 .left),
-      sym (rw (widened w16 w32 _ (c .before .struct-told2 .given .1 .1 .1 .1 .0 .1) tt) at (c .grade-outside .ensures)),
+      sym (rw (first-grade (c .before) .1) at (c .grade-outside .ensures)),
     )
 
 returns-5 : tie.Need-returns-5

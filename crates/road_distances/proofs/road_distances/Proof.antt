@@ -8,14 +8,14 @@ use Rattle.road_distances.specs.RoadDistances.{roadDistances}
 use Rattle.road_distances.proofs.road_distances.Statement.{statement}
 use Rattle.road_distances.proofs.road_distances.Tie as tie
 
+road-grade-requires : tie.Need-road-grade-requires
+road-grade-requires c κs = search needs
+
 cast-distances-for : tie.Need-cast-distances-for
 cast-distances-for c = search needs
 
 cast-distances-for-2 : tie.Need-cast-distances-for-2
 cast-distances-for-2 c = search needs
-
-road-grade-requires : tie.Need-road-grade-requires
-road-grade-requires c κs = search needs
 
 distances-for-requires : tie.Need-distances-for-requires
 distances-for-requires c κs = search needs
@@ -23,9 +23,9 @@ distances-for-requires c κs = search needs
 returns : tie.Need-returns
 unfolding roadDistances
 returns c =
-    let grade = c .before .road-grade in let r = c .before .before .before .before .args .road in
-    c .distances-for .ensures ∙ ap (distancesFor (r .speed) (r .purpose)) (got w32 _ (grade .ok) ∙ grade .ensures)
+    let g = c .before .before .before in let r = g .before .args .road in
+    c .distances-for .ensures ∙ ap (distancesFor (r .speed) (r .purpose)) (got w32 _ (g .road-grade .ok) ∙ g .road-grade .ensures)
 
 pub road-distances-spec : {M : Type 1} → statement M
 road-distances-spec =
-    tie.close (tie.spec cast-distances-for cast-distances-for-2 road-grade-requires distances-for-requires returns)
+    tie.close (tie.spec road-grade-requires cast-distances-for cast-distances-for-2 distances-for-requires returns)

@@ -9,7 +9,7 @@ use lib.ListN.{length, drop, getD, length-take}
 use lib.Seq.{drop-length}
 use mir.Syntax.{w16, w32}
 use mir.Val.{toZ}
-use Rattle.whole.proofs.Machine.{widened-fits, widened, got}
+use Rattle.whole.proofs.Machine.{got, Widens, widens}
 use Rattle.road.specs.declared.Curve.{Curve}
 use Rattle.road.specs.declared.Road.{Road}
 use Rattle.road.specs.Road.{curvesOf, noCurve}
@@ -56,10 +56,18 @@ mul-c c = record { fits = omega (arith, places (c .before .before .before)) }
 element-copy-out-c : tie.Need-element-copy-out-c Inv-loop μ-loop
 element-copy-out-c c = omega (arith, places (c .before .before .before))
 
+-- the grade of the curve at `i`, as it is cast
+abbrev head : tie.After-struct-told Inv-loop μ-loop → tie.At-loop Inv-loop μ-loop
+head c = c .before .before .before .before
+
+abbrev out : tie.At-loop Inv-loop μ-loop → ℤ
+out l = getD (l .before .before .args .t1 .curves) (l .loop .i - 1) noCurve .«grade_out»
+
+grade-out : (c : tie.After-struct-told Inv-loop μ-loop) → Widens w16 w32 (out (head c))
+grade-out c = widens w16 w32 _ (c .struct-told .given .1 .1 .0 .1) tt
+
 cast-lesser : tie.Need-cast-lesser Inv-loop μ-loop
-cast-lesser c =
-    let l = c .before .before .before .before in let r = l .before .before .args .t1 in
-    widened-fits w16 w32 (getD (r .curves) (l .loop .i - 1) noCurve .«grade_out») (c .struct-told .given .1 .1 .0 .1) tt
+cast-lesser c = grade-out c .0
 
 lesser-requires : tie.Need-lesser-requires Inv-loop μ-loop
 lesser-requires c κs = search needs
@@ -69,13 +77,17 @@ loop-less c = search needs
 
 loop-again : tie.Need-loop-again Inv-loop μ-loop
 loop-again c =
-    let told = c .before in let l = told .before .before .before .before in let r = l .before .before .args .t1 in
-    let grade = widened w16 w32 (getD (r .curves) (l .loop .i - 1) noCurve .«grade_out») (told .struct-told .given .1 .1 .0 .1) tt in
-    let least = rw (grade, l .loop .inv .1) at (c .lesser .ensures) in
-    (omega arith, got w32 _ (c .lesser .ok) ∙ least ∙ sym (least-next r (l .loop .i) (omega arith) (l .loop .inv .0)))
+    let l = head (c .before) in
+    let least = rw (grade-out (c .before) .1, l .loop .inv .1) at (c .lesser .ensures) in
+    let next = least-next (l .before .before .args .t1) (l .loop .i) (omega arith) (l .loop .inv .0) in
+    (omega arith, got w32 _ (c .lesser .ok) ∙ least ∙ sym next)
+
+-- the first grade, as it is cast
+first-grade : (c : tie.After-struct-told2 Inv-loop μ-loop) → Widens w16 w32 (c .before .before .before .before .args .t1 .«first_grade»)
+first-grade c = widens w16 w32 _ (c .struct-told2 .given .1 .1 .1 .1 .0 .1) tt
 
 cast-lesser-2 : tie.Need-cast-lesser-2 Inv-loop μ-loop
-cast-lesser-2 c = widened-fits w16 w32 (c .before .before .before .before .args .t1 .«first_grade») (c .struct-told2 .given .1 .1 .1 .1 .0 .1) tt
+cast-lesser-2 c = first-grade c .0
 
 lesser-requires-2 : tie.Need-lesser-requires-2 Inv-loop μ-loop
 lesser-requires-2 c κs = search needs
@@ -83,10 +95,9 @@ lesser-requires-2 c κs = search needs
 returns : tie.Need-returns Inv-loop μ-loop
 unfolding leastGrade
 returns c =
-    let told = c .before in let l = told .before .before in
-    let grade = widened w16 w32 (l .before .before .args .t1 .«first_grade») (told .struct-told2 .given .1 .1 .1 .1 .0 .1) tt in
+    let l = c .before .before .before in
     let all : l .loop .i ≡ 0 = omega arith in
-    got w32 _ (c .lesser2 .ok) ∙ rw (grade, l .loop .inv .1, all) at (c .lesser2 .ensures)
+    got w32 _ (c .lesser2 .ok) ∙ rw (first-grade (c .before) .1, l .loop .inv .1, all) at (c .lesser2 .ensures)
 
 pub road-grade-spec : {M : Type 1} → statement M
 road-grade-spec =

@@ -1,9 +1,11 @@
 -- `mark_road` meets its contract: past the verdict the road is accepted, the array has a place for each of its stations and its front is
 -- the road's own heights, whose marks are the road's (`own-answer`, `own-list`).
-use mathlib.Core.Path.{_≡_, sym, ap, _∙_}
+use mathlib.Core.Path.{_≡_, sym, ap, ap₂, _∙_}
+use mathlib.Core.List.{List}
 use Prim.Native.Nat.{_+_, _≤_}
 use borrow.Author.Needs.{needs}
 use native.Mathlib.Omega.{arith}
+use lib.IntN.{ℤ}
 use lib.ListN.{length, take}
 use lib.Seq.{length-take-le}
 use mir.Syntax.{w32}
@@ -13,6 +15,7 @@ use Rattle.terms.proofs.Laws.{ends-fault}
 use Rattle.road.specs.Road.{roadVerdict}
 use Rattle.heights.specs.Heights.{ownHeights}
 use Rattle.heights.proofs.Filled.{own-front}
+use Rattle.marks.specs.Marks.{marksAnswer, marksList}
 use Rattle.road_marks.specs.RoadMarks.{roadMark, markRoadAnswer, markRoadList}
 use Rattle.road_marks.proofs.OwnMarks.{marked-length, own-answer, own-list}
 use Rattle.road_marks.proofs.mark_road.Statement.{statement}
@@ -59,14 +62,14 @@ cast-stations c = search needs
 add-stations : tie.Need-add-stations
 add-stations c = search needs
 
+road-grade-requires : tie.Need-road-grade-requires
+road-grade-requires c κs = search needs
+
 cast-marks : tie.Need-cast-marks
 cast-marks c = search needs
 
 cast-marks-2 : tie.Need-cast-marks-2
 cast-marks-2 c = search needs
-
-road-grade-requires : tie.Need-road-grade-requires
-road-grade-requires c κs = search needs
 
 array-share-prefix-heights : tie.Need-array-share-prefix-heights
 array-share-prefix-heights c = room (c .before .before .before .before .before)
@@ -82,10 +85,11 @@ same-length c = search needs
 
 returns-2 : tie.Need-returns-2
 returns-2 c =
-    let m = c .before .before in let g = m .before .before .before in let h = g .before .before .before .before .before in
-    let ok = accepted h in let grade = got w32 _ (g .road-grade .ok) ∙ g .road-grade .ensures in (
-      m .marks .ensures .0 ∙ rw (grade, front h) (own-answer _ ok _),
-      m .marks .ensures .1 ∙ rw (grade, front h) (own-list _ ok _),
+    let m = c .before .before in let g = m .before .before .before .before .before in let h = g .before .before .before in
+    let r = start h .args .road in let list = start h .args .list .now in let ok = accepted h in
+    let grade = got w32 _ (g .road-grade .ok) ∙ g .road-grade .ensures in (
+      m .marks .ensures .0 ∙ ap₂ (λ (x : ℤ) (hs : List ℤ). marksAnswer (r .speed) (r .purpose) x hs list) grade (front h) ∙ own-answer r ok list,
+      m .marks .ensures .1 ∙ ap₂ (λ (x : ℤ) (hs : List ℤ). marksList (r .speed) (r .purpose) x hs list) grade (front h) ∙ own-list r ok list,
     )
 
 pub mark-road-spec : {M : Type 1} → statement M
@@ -100,9 +104,9 @@ mark-road-spec =
     heights-requires
     cast-stations
     add-stations
+    road-grade-requires
     cast-marks
     cast-marks-2
-    road-grade-requires
     array-share-prefix-heights
     slice-aggregate-marks
     marks-requires

@@ -6,7 +6,7 @@ use mir.ValLaws.{toZ-pos}
 use borrow.Author.Needs.{needs}
 use native.Mathlib.Omega.{arith}
 use Rattle.terms.specs.Answers.{signed}
-use Rattle.whole.proofs.Range.{natB, natR, countB, countR, fits-by, same-by, sizes, reads}
+use Rattle.whole.proofs.Range.{natB, literalR, countB, countR, fits-by, same-by, sizes, reads}
 use Rattle.terms.proofs.signed_answer.Statement.{statement}
 use Rattle.terms.proofs.signed_answer.Tie as tie
 
@@ -33,7 +33,7 @@ returns c = toZ-pos w64 (c .before .answer .given .0 .0) (omega arith) ∙ ap si
 
 returns-2 : tie.Need-returns-2
 returns-2 c =
-    let z = natR {k = 0} 0 (omega arith) in
+    let z = literalR 0 in
     let k = countR w64 (c .before .answer2 .given .0 .0) 255 (omega arith) in
     same-by (search reads) tt ∙ +ℤ-idl (negℤ (pos (c .before .answer2 .given .0 .0))) ∙ ap signed (sym (c .before .answer2 .given .1))
 

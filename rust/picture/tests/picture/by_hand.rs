@@ -105,7 +105,10 @@ fn grades() {
         (i32::MAX, "21474836.47"),
     ] {
         let picture = svg(&Profile { grade, ..profile(&[0; 2], &[], &NO_ZONES) });
-        assert!(picture.contains(&format!(">20 km/h, grade {percent} %: stopping sight 20 m, decision")), "{grade}");
+        assert!(
+            picture.contains(&format!(">20 km/h, marked with grade {percent} %: stopping sight 20 m, decision")),
+            "{grade}"
+        );
     }
 }
 

@@ -53,7 +53,7 @@ fn compare_headings(road: &Road, drawn: &Drawn, plot: &Plot, text: &str) {
     for words in [
         format!("<title>Sight along the road, {length} m</title>"),
         format!(">Sight along the road, {length} m</text>"),
-        format!(">{speed} km/h, grade {grade}: {distances}"),
+        format!(">{speed} km/h, marked with grade {grade}: {distances}"),
         format!("vertical exaggeration <tspan class=\"letter\">{exaggeration} : 1</tspan>"),
     ] {
         assert_eq!(text.matches(&words).count(), 1, "{words} of {road:?}");
@@ -70,15 +70,25 @@ fn compare_profile(drawn: &Drawn, plot: &Plot, all: &Elements) {
 
 /// The tint of the plot and the parts that are cut out of the road.
 fn compare_zones(drawn: &Drawn, plot: &Plot, all: &Elements) {
-    let [lacking, _, reduced, not_judged, _] = &drawn.zones;
-    for (attribute, value, zones) in
-        [("class", "tint", lacking), ("id", "S", lacking), ("id", "R", reduced), ("id", "ns", not_judged)]
-    {
+    let [lacking, decision_lacking, reduced, not_judged, _] = &drawn.zones;
+    for (attribute, value, zones) in [
+        ("class", "tint", lacking),
+        ("id", "S", lacking),
+        ("id", "R", reduced),
+        ("id", "D", decision_lacking),
+        ("id", "ns", not_judged),
+    ] {
         let group = all.only(attribute, value).0;
         assert_eq!(all.rectangles(group), plot.zones(zones, TOP, HEIGHT), "{value}");
     }
     let line = all.with("href", "#profile").map(|part| (part.get("class"), part.get("clip-path")));
-    let parts = [("road ns", "url(#ns)"), ("road", "url(#judged)"), ("road R", "url(#R)"), ("road S", "url(#S)")];
+    let parts = [
+        ("road ns", "url(#ns)"),
+        ("road", "url(#judged)"),
+        ("road D", "url(#D)"),
+        ("road R", "url(#R)"),
+        ("road S", "url(#S)"),
+    ];
     assert_eq!(line.collect::<Vec<_>>(), parts);
     let judged = all.only("id", "judged").0;
     let paths: Vec<_> = all.inside(judged).map(Element::path).collect();

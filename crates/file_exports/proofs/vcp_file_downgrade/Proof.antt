@@ -1,5 +1,5 @@
--- `vcp_file_descent` meets its contract: a refused file gives its number; else the grade of the file's road, whose size is what is left of
--- it with the sign changed, since it is not positive (`least-grade-low`).
+-- `vcp_file_downgrade` meets its contract: a refused file gives its number; else it is minus the road's grade, which is the grade's
+-- size, since it is not positive (`least-grade-not-positive`).
 use mathlib.Core.Path.{_≡_, refl, sym, _∙_}
 use native.Mathlib.Omega.{arith}
 use lib.IntN.{pos, negℤ, _-ℤ_, +ℤ-idl}
@@ -8,13 +8,13 @@ use mir.Val.{toZ, ofZ}
 use borrow.Author.Needs.{needs}
 use Rattle.whole.proofs.Int.{neg-natAbs}
 use Rattle.whole.proofs.Machine.{got}
-use Rattle.whole.proofs.Range.{Reads, natR, leafR, fits-by, same-by, sizes, reads}
+use Rattle.whole.proofs.Range.{Reads, literalR, leafR, fits-by, same-by, sizes, reads}
 use Rattle.road_distances.specs.RoadDistances.{gradesOf}
-use Rattle.road_distances.proofs.Laws.{least-grade-low}
+use Rattle.road_distances.proofs.Laws.{least-grade-not-positive}
 use Rattle.file.proofs.Sound.{verdict-read, road-read}
-use Rattle.file_exports.specs.FileExports.{fileDescent}
-use Rattle.file_exports.proofs.vcp_file_descent.Statement.{statement}
-use Rattle.file_exports.proofs.vcp_file_descent.Tie as tie
+use Rattle.file_exports.specs.FileExports.{fileDowngrade}
+use Rattle.file_exports.proofs.vcp_file_downgrade.Statement.{statement}
+use Rattle.file_exports.proofs.vcp_file_downgrade.Tie as tie
 
 read-requires : tie.Need-read-requires
 read-requires c κs = search needs
@@ -26,7 +26,7 @@ signed-answer-requires : tie.Need-signed-answer-requires
 signed-answer-requires c κs = search needs
 
 returns : tie.Need-returns
-unfolding fileDescent
+unfolding fileDowngrade
 returns c =
     let d = c .before .before in
     let v = sym (verdict-read _ _ (d .before .before .read .ensures)) ∙ d .verdict .given .1 in
@@ -38,10 +38,7 @@ enum-told c = search needs
 road-grade-requires : tie.Need-road-grade-requires
 road-grade-requires c κs = search needs
 
--- what is read: the grade, and the 0 that it is taken from
-abbrev from-zero : Reads (pos 0) (pos 0)
-from-zero = natR 0 (omega arith)
-
+-- what is read: the grade, which is taken from 0
 abbrev grade : (c : tie.After-road-grade) → let z = c .road-grade .result in Reads (toZ w32 (ofZ w32 z)) z
 grade c = leafR w32 record { sfits = c .road-grade .ok }
 
@@ -49,24 +46,24 @@ cast-result : tie.Need-cast-result
 cast-result c = let g = grade c in fits-by (search sizes depth 16) tt
 
 sub-result : tie.Need-sub-result
-sub-result c = let z = from-zero in let g = grade c in fits-by (search sizes depth 16) tt
+sub-result c = let z = literalR 0 in let g = grade c in fits-by (search sizes depth 16) tt
 
 opposite : (c : tie.After-road-grade) → let g = c .road-grade .result in
     toZ w64 (ofZ w64 (pos 0 -ℤ toZ w64 (ofZ w64 (toZ w32 (ofZ w32 g))))) ≡ negℤ g
-opposite c = let z = from-zero in let g = grade c in same-by (search reads depth 20) tt ∙ +ℤ-idl (negℤ (c .road-grade .result))
+opposite c = let z = literalR 0 in let g = grade c in same-by (search reads depth 20) tt ∙ +ℤ-idl (negℤ (c .road-grade .result))
 
 returns-2 : tie.Need-returns-2
-unfolding fileDescent
+unfolding fileDowngrade
 returns-2 c =
     let t = c .before .before in
     let read = t .before .before .read in
     let v = sym (verdict-read _ _ (read .ensures)) ∙ t .enum-told .given .1 in
     let road = road-read _ _ (read .ensures) v in
-    let low = least-grade-low (gradesOf (read .result .road)) in
+    let low = least-grade-not-positive (gradesOf (read .result .road)) in
     rw (v, ← road) (opposite c ∙ rw (c .road-grade .ensures) (neg-natAbs _ low))
 
-pub vcp-file-descent-spec : {M : Type 1} → statement M
-vcp-file-descent-spec =
+pub vcp-file-downgrade-spec : {M : Type 1} → statement M
+vcp-file-downgrade-spec =
     tie.close
     (tie.spec
     read-requires
