@@ -1,7 +1,6 @@
 -- `vcp_file_downgrade` meets its contract: a refused file gives its number; else it is minus the road's grade, which is the grade's
 -- size, since it is not positive (`least-grade-not-positive`).
 use mathlib.Core.Path.{_≡_, refl, sym, _∙_}
-use native.Mathlib.Omega.{arith}
 use lib.IntN.{pos, negℤ, _-ℤ_, +ℤ-idl}
 use mir.Syntax.{w32, w64}
 use mir.Val.{toZ, ofZ}
