@@ -13,10 +13,10 @@ pub fn mark_road(road: Road, list: &mut [u8]) -> Answer
     if let Verdict::Fault(number) = road::verdict(road) {
         return Answer::Refused(number);
     }
+    let grade = road_distances::road_grade(road);
     let mut heights = [0i32; terms::MARKED_STATIONS];
     heights::heights(road, &mut heights);
     let stations = road.length as usize + 1;
-    let grade = road_distances::road_grade(road);
     marks::marks(
         road.speed as u32,
         road.purpose as u32,

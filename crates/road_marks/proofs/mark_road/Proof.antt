@@ -23,11 +23,14 @@ use Rattle.road_marks.proofs.mark_road.Tie as tie
 
 -- what Heights leaves in the array
 module _ (h : tie.After-heights2) where
+  abbrev graded : tie.After-road-grade
+  graded = h .before .before
+
   abbrev start : tie.Start
-  start = h .before .before .before .before .before .before
+  start = graded .before .before .before .before .before
 
   accepted : roadVerdict (start .args .road) ≡ Accepted
-  accepted = let told = h .before .before in sym (told .before .before .verdict .ensures) ∙ told .enum-told .given .1
+  accepted = let told = graded .before in sym (told .before .before .verdict .ensures) ∙ told .enum-told .given .1
 
   room : start .args .road .length + 1 ≤ length (h .heights2 .last .1 .0)
   room = omega (arith, h .heights2 .kept .1 .0, marked-length _ accepted)
@@ -50,6 +53,9 @@ returns c =
 enum-told : tie.Need-enum-told
 enum-told c = search needs
 
+road-grade-requires : tie.Need-road-grade-requires
+road-grade-requires c κs = search needs
+
 slice-aggregate-heights : tie.Need-slice-aggregate-heights
 slice-aggregate-heights c = search needs
 
@@ -62,9 +68,6 @@ cast-stations c = search needs
 add-stations : tie.Need-add-stations
 add-stations c = search needs
 
-road-grade-requires : tie.Need-road-grade-requires
-road-grade-requires c κs = search needs
-
 cast-marks : tie.Need-cast-marks
 cast-marks c = search needs
 
@@ -72,10 +75,10 @@ cast-marks-2 : tie.Need-cast-marks-2
 cast-marks-2 c = search needs
 
 array-share-prefix-heights : tie.Need-array-share-prefix-heights
-array-share-prefix-heights c = room (c .before .before .before .before .before)
+array-share-prefix-heights c = room (c .before .before .before .before)
 
 slice-aggregate-marks : tie.Need-slice-aggregate-marks
-slice-aggregate-marks c = sym (length-take-le _ _ (room (c .before .before .before .before .before .before)))
+slice-aggregate-marks c = sym (length-take-le _ _ (room (c .before .before .before .before .before)))
 
 marks-requires : tie.Need-marks-requires
 marks-requires c κs = search needs
@@ -85,9 +88,9 @@ same-length c = search needs
 
 returns-2 : tie.Need-returns-2
 returns-2 c =
-    let m = c .before .before in let g = m .before .before .before .before .before in let h = g .before .before .before in
+    let m = c .before .before in let h = m .before .before .before .before .before .before .before in
     let r = start h .args .road in let list = start h .args .list .now in let ok = accepted h in
-    let grade = got w32 _ (g .road-grade .ok) ∙ g .road-grade .ensures in (
+    let grade = got w32 _ (graded h .road-grade .ok) ∙ graded h .road-grade .ensures in (
       m .marks .ensures .0 ∙ ap₂ (λ (x : ℤ) (hs : List ℤ). marksAnswer (r .speed) (r .purpose) x hs list) grade (front h) ∙ own-answer r ok list,
       m .marks .ensures .1 ∙ ap₂ (λ (x : ℤ) (hs : List ℤ). marksList (r .speed) (r .purpose) x hs list) grade (front h) ∙ own-list r ok list,
     )
@@ -100,11 +103,11 @@ mark-road-spec =
     enum-known-number
     returns
     enum-told
+    road-grade-requires
     slice-aggregate-heights
     heights-requires
     cast-stations
     add-stations
-    road-grade-requires
     cast-marks
     cast-marks-2
     array-share-prefix-heights
