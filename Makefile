@@ -27,7 +27,7 @@ test: tools
 	log=$$(mktemp)
 	trap 'rm -f "$$log"' EXIT
 	rt ci | tee "$$log"
-	printf '%s\n' $(LIBRARIES) | xargs -n 1 -P 2 rt staticlib
+	printf '%s\n' $(LIBRARIES) | xargs -n 1 rt staticlib
 	cargo test --workspace --release --offline --quiet
 	tail -n 1 "$$log"
 
