@@ -76,25 +76,25 @@ within-root-scale k x y z t =
 
 -- by where the two lengths lie: both from the sight distance on, either side of it, or both below it
 adequate-mono-cases :
-    (a s u v l m : ℕ) (c d : Bool) → l ≤ m → leb s l ≡ c → leb s m ≡ d →
-    T (cond c (withinRoot (a * (s * s)) (l * u) (l * l * v)) (withinRoot (a * (2 * s - l)) u v)) →
-    T (cond d (withinRoot (a * (s * s)) (m * u) (m * m * v)) (withinRoot (a * (2 * s - m)) u v))
-adequate-mono-cases a s u v l m true true h p q t =
-    within-root-mono (a * (s * s)) (l * u) (l * l * v) (omega arith) (mul-le-mul-right u h) (mul-le-mul-right v (mul-le-mul h h)) t
-adequate-mono-cases a s u v l m true false h p q t = absurd (omega (arith, leb-true s l p, leb-false s m q))
-adequate-mono-cases a s u v l m false true h p q t =
+    (a s u w l m : ℕ) (c d : Bool) → l ≤ m → leb s l ≡ c → leb s m ≡ d →
+    T (cond c (withinRoot (a * (s * s)) (l * u) (l * l * w)) (withinRoot (a * (2 * s - l)) u w)) →
+    T (cond d (withinRoot (a * (s * s)) (m * u) (m * m * w)) (withinRoot (a * (2 * s - m)) u w))
+adequate-mono-cases a s u w l m true true h p q t =
+    within-root-mono (a * (s * s)) (l * u) (l * l * w) (omega arith) (mul-le-mul-right u h) (mul-le-mul-right w (mul-le-mul h h)) t
+adequate-mono-cases a s u w l m true false h p q t = absurd (omega (arith, leb-true s l p, leb-false s m q))
+adequate-mono-cases a s u w l m false true h p q t =
     let g : s ≤ m = leb-true s m q in
     let k : s ≤ 2 * s - l = omega (arith, leb-false s l p) in
-    within-root-mono (s * (a * s)) (s * u) (s * s * v) (omega arith) (mul-le-mul-right u g) (mul-le-mul-right v (mul-le-mul g g))
-    (within-root-scale s (a * s) u v (within-root-mono (a * (2 * s - l)) u v (mul-le-mul-left a k) (omega arith) (omega arith) t))
-adequate-mono-cases a s u v l m false false h p q t =
+    within-root-mono (s * (a * s)) (s * u) (s * s * w) (omega arith) (mul-le-mul-right u g) (mul-le-mul-right w (mul-le-mul g g))
+    (within-root-scale s (a * s) u w (within-root-mono (a * (2 * s - l)) u w (mul-le-mul-left a k) (omega arith) (omega arith) t))
+adequate-mono-cases a s u w l m false false h p q t =
     let k : 2 * s - m ≤ 2 * s - l = omega arith in
-    within-root-mono (a * (2 * s - l)) u v (mul-le-mul-left a k) (omega arith) (omega arith) t
+    within-root-mono (a * (2 * s - l)) u w (mul-le-mul-left a k) (omega arith) (omega arith) t
 
--- a longer crest is adequate where a shorter one is, whatever Q = u + √v
-pub adequate-mono : (a s u v l m : ℕ) → l ≤ m → T (adequate a s u v l) → T (adequate a s u v m)
+-- a longer crest is adequate where a shorter one is, whatever Q = u + √w
+pub adequate-mono : (a s u w l m : ℕ) → l ≤ m → T (adequate a s u w l) → T (adequate a s u w m)
 unfolding adequate
-adequate-mono a s u v l m h t = adequate-mono-cases a s u v l m (leb s l) (leb s m) h refl refl t
+adequate-mono a s u w l m h t = adequate-mono-cases a s u w l m (leb s l) (leb s m) h refl refl t
 
 -- ---- the least even length
 

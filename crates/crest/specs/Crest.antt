@@ -1,9 +1,9 @@
 -- docs/RULES.md, "How long a crest must be".
 --
--- A length L is adequate for a drop in grade a and a sight distance S, with Q = u + √v, when
+-- A length L is adequate for a drop in grade a and a sight distance S, with Q = u + √w, when
 --   S ≤ L and L Q ≥ a S², or L < S and a (2 S − L) ≤ Q.
--- For the crest u = 2 (e + o) and v = 16 e o. With the root isolated the two inequalities are
---   a S² − L u ≤ L √v = √(L² v), and a (2 S − L) − u ≤ √v.
+-- For the crest u = 2 (e + o) and w = 16 e o. With the root isolated the two inequalities are
+--   a S² − L u ≤ L √w = √(L² w), and a (2 S − L) − u ≤ √w.
 -- Each has the form x − y ≤ √z in whole numbers. Where x ≤ y its left side is not positive and it holds; else the left
 -- side is positive, the right side is not negative, and it holds exactly when (x − y)² ≤ z.
 use Prim.Native.Nat.{ℕ, zero, suc, _+_, _*_, _-_, _/_}
@@ -19,12 +19,12 @@ use Rattle.terms.specs.declared.Answer.the-variants.{Number, Refused}
 unfoldable pub withinRoot : ℕ → ℕ → ℕ → Bool
 withinRoot x y z = leb x y || leb ((x - y) * (x - y)) z
 
--- the length L is adequate for the drop a and the sight distance S, with Q = u + √v
+-- the length L is adequate for the drop a and the sight distance S, with Q = u + √w
 unfoldable pub adequate : ℕ → ℕ → ℕ → ℕ → ℕ → Bool
-adequate a s u v l =
+adequate a s u w l =
     cond (leb s l)
-    (withinRoot (a * (s * s)) (l * u) (l * l * v))
-    (withinRoot (a * (2 * s - l)) u v)
+    (withinRoot (a * (s * s)) (l * u) (l * l * w))
+    (withinRoot (a * (2 * s - l)) u w)
 
 -- the first of n lengths l, l + 2, l + 4, … that passes the test; refused 18 where none does
 unfoldable pub leastEven : (ℕ → Bool) → ℕ → ℕ → Answer

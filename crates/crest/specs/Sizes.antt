@@ -3,9 +3,9 @@
 use Prim.Native.Nat.{ℕ, _*_, _≤_}
 use Rattle.terms.specs.Limits.{greatestDrop, greatestSightDistance, greatestHeight}
 
--- the drop a, the sight distance s, and Q = u + √v
-pub record Sized (a s u v : ℕ) : Type 0 where
+-- the drop a, the sight distance s, and Q = u + √w
+pub record Sized (a s u w : ℕ) : Type 0 where
   pub drop : a ≤ greatestDrop
   pub sight : s ≤ greatestSightDistance
   pub whole-part : u ≤ 4 * greatestHeight
-  pub under-root : v ≤ 16 * greatestHeight * greatestHeight
+  pub under-root : w ≤ 16 * greatestHeight * greatestHeight

@@ -18,29 +18,29 @@ fn within_root(x: u64, y: u64, z: u64) -> bool
     over * over <= z
 }
 
-// Whether the length l is adequate for the drop a and the sight distance s, with Q = u + √v. The largest product is
-// l² v = 4,000,000 × 40,000,000,000 = 1.6 × 10^17.
-fn adequate(a: u64, s: u64, u: u64, v: u64, l: u64) -> bool
-    requires { ⌜ Sized a s u v × (l ≤ greatestCrest) ⌝ }
-    ensures { λ r. ⌜ r ≡ adequate a s u v l ⌝ }
+// Whether the length l is adequate for the drop a and the sight distance s, with Q = u + √w. The largest product is
+// l² w = 4,000,000 × 40,000,000,000 = 1.6 × 10^17.
+fn adequate(a: u64, s: u64, u: u64, w: u64, l: u64) -> bool
+    requires { ⌜ Sized a s u w × (l ≤ greatestCrest) ⌝ }
+    ensures { λ r. ⌜ r ≡ adequate a s u w l ⌝ }
 {
     if s <= l {
-        return within_root(a * (s * s), l * u, l * l * v);
+        return within_root(a * (s * s), l * u, l * l * w);
     }
-    within_root(a * (2 * s - l), u, v)
+    within_root(a * (2 * s - l), u, w)
 }
 
 // The least even adequate length from 0 to 2,000, by a binary search over half the length: about ten lengths are tested.
-fn least_even(a: u64, s: u64, u: u64, v: u64) -> Answer
-    requires { ⌜ Sized a s u v ⌝ }
-    ensures { λ r. ⌜ r ≡ leastEven (adequate a s u v) 0 (greatestCrest / 2 + 1) ⌝ }
+fn least_even(a: u64, s: u64, u: u64, w: u64) -> Answer
+    requires { ⌜ Sized a s u w ⌝ }
+    ensures { λ r. ⌜ r ≡ leastEven (adequate a s u w) 0 (greatestCrest / 2 + 1) ⌝ }
 {
     let last = (terms::GREATEST_CREST / 2) as u64;
     let mut low = 0;
     let mut high = last + 1;
     while low < high {
         let half = low + (high - low) / 2;
-        if adequate(a, s, u, v, 2 * half) {
+        if adequate(a, s, u, w, 2 * half) {
             high = half;
         } else {
             low = half + 1;

@@ -22,48 +22,48 @@ record Searched (test : ℕ → Bool) (low high : ℕ) : Type 0 where
   below : (j : ℕ) → j < low → T (test (2 * j)) → ⊥
   found : high ≤ greatestCrest / 2 → T (test (2 * high))
 
-module _ (a s u v low high : ℕ) (i : Searched (adequate a s u v) low high) where
+module _ (a s u w low high : ℕ) (i : Searched (adequate a s u w) low high) where
   lowered :
-      (half : ℕ) → low ≤ half → half < high → adequate a s u v (2 * half) ≡ true →
-      Searched (adequate a s u v) low half
+      (half : ℕ) → low ≤ half → half < high → adequate a s u w (2 * half) ≡ true →
+      Searched (adequate a s u w) low half
   lowered half h k t = record { ordered = h; within = omega arith; below = i .below; found = λ _. rw t tt }
 
   raised :
-      (half : ℕ) → half < high → adequate a s u v (2 * half) ≡ false →
-      Searched (adequate a s u v) (half + 1) high
+      (half : ℕ) → half < high → adequate a s u w (2 * half) ≡ false →
+      Searched (adequate a s u w) (half + 1) high
   raised half h t =
       record {
         ordered = omega arith;
         within = i .within;
         found = i .found;
-        below = λ j k p. rw t at (adequate-mono a s u v (2 * j) (2 * half) (omega arith) p);
+        below = λ j k p. rw t at (adequate-mono a s u w (2 * j) (2 * half) (omega arith) p);
       }
 
   past-all :
       high ≤ low → greatestCrest / 2 < high →
-      Refused noLengthRefused ≡ leastEven (adequate a s u v) 0 (greatestCrest / 2 + 1)
+      Refused noLengthRefused ≡ leastEven (adequate a s u w) 0 (greatestCrest / 2 + 1)
   past-all h k =
-      least-even-only (adequate a s u v) 0 (greatestCrest / 2 + 1) (Refused noLengthRefused)
-      (refl, λ j l t. i .below j (omega arith) (subst (λ (x : ℕ). T (adequate a s u v x)) (omega arith) t))
+      least-even-only (adequate a s u w) 0 (greatestCrest / 2 + 1) (Refused noLengthRefused)
+      (refl, λ j l t. i .below j (omega arith) (subst (λ (x : ℕ). T (adequate a s u w x)) (omega arith) t))
 
   met :
       high ≤ low → high ≤ greatestCrest / 2 →
-      Number (2 * high) ≡ leastEven (adequate a s u v) 0 (greatestCrest / 2 + 1)
+      Number (2 * high) ≡ leastEven (adequate a s u w) 0 (greatestCrest / 2 + 1)
   met h k =
-      least-even-only (adequate a s u v) 0 (greatestCrest / 2 + 1) (Number (2 * high))
+      least-even-only (adequate a s u w) 0 (greatestCrest / 2 + 1) (Number (2 * high))
       (record {
         index = high;
         within = omega arith;
         place = omega arith;
         passes = i .found k;
-        before = λ j l t. i .below j (omega arith) (subst (λ (x : ℕ). T (adequate a s u v x)) (omega arith) t);
+        before = λ j l t. i .below j (omega arith) (subst (λ (x : ℕ). T (adequate a s u w x)) (omega arith) t);
       })
 
 abbrev Inv-loop : tie.InvT-loop
-Inv-loop a s u v last low₀ high₀ low high = Searched (adequate a s u v) low high
+Inv-loop a s u w last low₀ high₀ low high = Searched (adequate a s u w) low high
 
 abbrev μ-loop : tie.MeasureT-loop
-μ-loop a s u v last low₀ high₀ low high = high - low
+μ-loop a s u w last low₀ high₀ low high = high - low
 
 cast-last : tie.Need-cast-last Inv-loop μ-loop
 cast-last c = search needs
