@@ -2,14 +2,15 @@
 -- height 0 at 100 stand beside them.
 use mathlib.Core.Path.{_≡_}
 use mathlib.Core.List.{[], _∷_}
-use Prim.Native.Nat.{ℕ, _*_, _/_}
+use Prim.Native.Nat.{ℕ, _+_, _*_, _/_}
 use lib.IntN.{ℤ, pos, negℤ}
 use lib.ListN.{getD, replicate}
-use Rattle.terms.specs.Limits.{stoppingPurpose, eyeHeight, objectHeight}
+use Rattle.terms.specs.Limits.{stoppingPurpose, greatestCrest, eyeHeight, objectHeight}
+use Rattle.terms.specs.declared.Answer.{Answer}
 use Rattle.terms.specs.declared.Answer.the-variants.{Number}
 use Rattle.terms.specs.declared.Verdict.the-variants.{Accepted}
 use Rattle.distance.specs.Distance.{purposeRow, metreParts, levelParts, requiredDistance}
-use Rattle.crest.specs.Crest.{crestLength}
+use Rattle.crest.specs.Crest.{adequate, leastEven, crestLength}
 use Rattle.road.specs.declared.Curve.{Curve}
 use Rattle.road.specs.declared.Road.{Road}
 use Rattle.road.specs.Road.{roadVerdict}
@@ -36,6 +37,11 @@ crestRoad l = record {
 unfoldable pub heightAt : ℕ → ℕ → ℤ
 heightAt l x = getD (ownHeights (crestRoad l)) x (negℤ (pos 1))
 
+-- the least even adequate length of a crest with this drop and sight distance, whatever the speed is: e = 10,800 and o = 6,000
+unfoldable pub leastAdequate : ℕ → ℕ → Answer
+leastAdequate a s =
+    leastEven (adequate a s (2 * (eyeHeight + objectHeight)) (16 * eyeHeight * objectHeight)) 0 (greatestCrest / 2 + 1)
+
 pub record StarredCases : Type 0 where
   -- Distances a driver needs: the 129.01 m before rounding in hundredths of a metre, rounded down
   pub distances :
@@ -45,12 +51,20 @@ pub record StarredCases : Type 0 where
       × (requiredDistance 20 1 (pos 0) ≡ Number 25)
       × (requiredDistance 130 5 (pos 0) ≡ Number 525)
       × (requiredDistance 90 stoppingPurpose (negℤ (pos 600)) ≡ Number 175)
-  -- How long a crest must be: e = 10,800 and o = 6,000
+  -- How long a crest must be: e = 10,800 and o = 6,000; the lengths that are answered, and the least adequate ones, which may lie below
+  -- the minimum for the speed
   pub crests :
-      (crestLength 600 130 eyeHeight objectHeight ≡ Number 156)
-      × (crestLength 300 130 eyeHeight objectHeight ≡ Number 42)
-      × (crestLength 253 130 eyeHeight objectHeight ≡ Number 0)
-      × (crestLength 254 130 eyeHeight objectHeight ≡ Number 2)
+      (crestLength 80 600 130 eyeHeight objectHeight ≡ Number 156)
+      × (crestLength 80 300 130 eyeHeight objectHeight ≡ Number 48)
+      × (crestLength 80 253 130 eyeHeight objectHeight ≡ Number 48)
+      × (crestLength 80 254 130 eyeHeight objectHeight ≡ Number 48)
+      × (crestLength 50 253 130 eyeHeight objectHeight ≡ Number 30)
+      × (crestLength 51 253 130 eyeHeight objectHeight ≡ Number 32)
+  pub adequate-crests :
+      (leastAdequate 600 130 ≡ Number 156)
+      × (leastAdequate 300 130 ≡ Number 42)
+      × (leastAdequate 253 130 ≡ Number 0)
+      × (leastAdequate 254 130 ≡ Number 2)
   -- The road and its heights
   pub heights :
       (roadVerdict (crestRoad 20) ≡ Accepted)

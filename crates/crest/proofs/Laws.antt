@@ -1,22 +1,24 @@
 -- Laws of the crest's definitions: what the squared form means, that adequacy never falls away as the length grows, and
--- that the answer is the least even adequate length.
+-- that the answer is the least even length that is long enough, refused 18 exactly where none is adequate.
 use Prim.Native.Nat.{ℕ, zero, suc, _+_, _*_, _-_, _/_, _%_, _≤_, _<_, zero-le}
 use native.Mathlib.Nat.{mul-le-mul, mul-le-mul-left, mul-le-mul-right, mul-sub, mul-mul-mul-comm}
 use native.Mathlib.Omega.{arith}
 use mathlib.Core.Path.{_≡_, refl, sym, ap, subst, _∙_}
 use mathlib.Core.Bool.{Bool, true, false, cond, _||_}
 use mathlib.Core.Logic.{_↔_, _⊎_, inl, inr, ⊎-elim}
+use mir.Facts.{and-yes, yes-and}
 use borrow.Author.Tests.{le-leb, le-ltb, leb-true, leb-false, ltb-true}
 use lib.Dec.{T, leb, ltb, leb→le, le→leb}
 use lib.IntN.{pos, negsuc, _-ℤ_, _*ℤ_, subℕ}
 use lib.Signed.{_≤ℤ_}
 use Rattle.terms.specs.Answers.{outside, eyeOrObjectOutside, refuse}
-use Rattle.terms.specs.Limits.{greatestDrop, greatestSightDistance, greatestHeight, greatestCrest}
-use Rattle.terms.specs.Refusals.{dropRefused, sightDistanceRefused, heightRefused, noLengthRefused}
+use Rattle.terms.specs.Limits.{leastSpeed, greatestSpeed, greatestDrop, greatestSightDistance, greatestCrest}
+use Rattle.terms.specs.Refusals.{speedRefused, dropRefused, sightDistanceRefused, heightRefused, noLengthRefused}
 use Rattle.terms.proofs.Laws.{AtMost, refuse-at-most, not-outside, heights-not-outside}
 use Rattle.terms.specs.declared.Answer.{Answer}
 use Rattle.terms.specs.declared.Answer.the-variants.{Number, Refused}
-use Rattle.crest.specs.Crest.{withinRoot, adequate, leastEven, crestLength}
+use Rattle.crest.specs.Crest.{withinRoot, adequate, reachesMinimum, longEnough, leastEven, crestLength}
+use Rattle.crest.specs.NoneAdequate.{InRange, NoneAdequate}
 
 -- ---- the root
 
@@ -96,6 +98,37 @@ pub adequate-mono : (a s u w l m : ℕ) → l ≤ m → T (adequate a s u w l) �
 unfolding adequate
 adequate-mono a s u w l m h t = adequate-mono-cases a s u w l m (leb s l) (leb s m) h refl refl t
 
+-- ---- the minimum
+
+pub reaches-minimum-mono : (v l m : ℕ) → l ≤ m → T (reachesMinimum v l) → T (reachesMinimum v m)
+unfolding reachesMinimum
+reaches-minimum-mono v l m h t = le→leb (3 * v) (5 * m) (omega (arith, leb→le (3 * v) (5 * l) t))
+
+-- the minimum for any speed that is not refused is within 2,000 m
+pub reaches-minimum-greatest : (v : ℕ) → v ≤ greatestSpeed → T (reachesMinimum v greatestCrest)
+unfolding reachesMinimum
+reaches-minimum-greatest v h = le→leb (3 * v) (5 * greatestCrest) (omega arith)
+
+-- long enough is both
+pub long-enough-is : (v a s u w l : ℕ) → T (longEnough v a s u w l) ↔ (T (reachesMinimum v l) × T (adequate a s u w l))
+unfolding longEnough
+long-enough-is v a s u w l =
+    let p = reachesMinimum v l in let q = adequate a s u w l in
+    (and-yes p q, λ b. yes-and p q (b .0) (b .1))
+
+-- a longer crest is long enough where a shorter one is
+pub long-enough-mono : (v a s u w l m : ℕ) → l ≤ m → T (longEnough v a s u w l) → T (longEnough v a s u w m)
+long-enough-mono v a s u w l m h t =
+    let b = long-enough-is v a s u w l .0 t in
+    long-enough-is v a s u w m .1 (reaches-minimum-mono v l m h (b .0), adequate-mono a s u w l m h (b .1))
+
+-- where a length up to 2,000 m is adequate, 2,000 m are long enough: the minimum hides no adequate length
+pub long-enough-greatest :
+    (v a s u w l : ℕ) → v ≤ greatestSpeed → l ≤ greatestCrest →
+    T (adequate a s u w l) → T (longEnough v a s u w greatestCrest)
+long-enough-greatest v a s u w l h k t =
+    long-enough-is v a s u w greatestCrest .1 (reaches-minimum-greatest v h, adequate-mono a s u w l greatestCrest k t)
+
 -- ---- the least even length
 
 -- r = l + 2 k passes the test for some k below n, and l + 2 j fails for each j below k
@@ -156,63 +189,75 @@ module _ (test : ℕ → Bool) where
   pub least-even-only : (l n : ℕ) (x : Answer) → FirstEven test l n x → x ≡ leastEven test l n
   least-even-only l n x f = first-even-unique l n x (leastEven test l n) f (least-even-is l n)
 
+-- ---- 18
+
+-- 18 is said exactly where no even length up to 2,000 is adequate, whatever Q = u + √w
+pub none-adequate :
+    (v a s u w : ℕ) → v ≤ greatestSpeed →
+    (leastEven (longEnough v a s u w) 0 (greatestCrest / 2 + 1) ≡ Refused noLengthRefused) ↔
+    ((l : ℕ) → l % 2 ≡ 0 → l ≤ greatestCrest → T (adequate a s u w l) → ⊥)
+none-adequate v a s u w h =
+    let test = longEnough v a s u w in
+    let n = greatestCrest / 2 + 1 in (
+      (λ p l even k t.
+          subst (FirstEven test 0 n) p (least-even-is test 0 n) .1 (greatestCrest / 2) (omega arith)
+          (long-enough-greatest v a s u w l h k t)),
+      λ f. sym (least-even-only test 0 n (Refused noLengthRefused)
+          (refl, λ j l t. f (0 + 2 * j) (omega arith) (omega arith) (long-enough-is v a s u w (0 + 2 * j) .0 t .1))),
+    )
+
 -- ---- the crest's length
 
 -- the test of a crest's lengths, with its own Q
-abbrev pub crestTest : ℕ → ℕ → ℕ → ℕ → ℕ → Bool
-crestTest a s e o = adequate a s (2 * (e + o)) (16 * e * o)
-
--- a, S, e and o are in their ranges
-pub record InRange (a s e o : ℕ) : Type 0 where
-  pub drop : (1 ≤ a) × (a ≤ greatestDrop)
-  pub sight : (1 ≤ s) × (s ≤ greatestSightDistance)
-  pub eye : (1 ≤ e) × (e ≤ greatestHeight)
-  pub object : (1 ≤ o) × (o ≤ greatestHeight)
+abbrev pub crestTest : ℕ → ℕ → ℕ → ℕ → ℕ → ℕ → Bool
+crestTest v a s e o = longEnough v a s (2 * (e + o)) (16 * e * o)
 
 -- in the ranges the answer is that of the search
 pub crest-length-in-range :
-    (a s e o : ℕ) → InRange a s e o →
-    crestLength a s e o ≡ leastEven (crestTest a s e o) 0 (greatestCrest / 2 + 1)
+    (v a s e o : ℕ) → InRange v a s e o →
+    crestLength v a s e o ≡ leastEven (crestTest v a s e o) 0 (greatestCrest / 2 + 1)
 unfolding crestLength
-crest-length-in-range a s e o h =
+crest-length-in-range v a s e o h =
     simp (
+      not-outside leastSpeed greatestSpeed v (h .speed),
       not-outside 1 greatestDrop a (h .drop),
       not-outside 1 greatestSightDistance s (h .sight),
       heights-not-outside e o (h .eye) (h .object),
     )
 
--- r is even, at most 2,000 and adequate, and no lesser even length is adequate
-pub record Least (a s e o r : ℕ) : Type 0 where
+-- r is even, at most 2,000 and passes the test, and no lesser even length does
+pub record Least (test : ℕ → Bool) (r : ℕ) : Type 0 where
   pub even : r % 2 ≡ 0
   pub within : r ≤ greatestCrest
-  pub passes : T (crestTest a s e o r)
-  pub least : (m : ℕ) → m % 2 ≡ 0 → m < r → T (crestTest a s e o m) → ⊥
+  pub passes : T (test r)
+  pub least : (m : ℕ) → m % 2 ≡ 0 → m < r → T (test m) → ⊥
 
 -- a number is no refusal, so it is the rest's answer
 refuse-number : (c : Bool) (k r : ℕ) (x : Answer) → refuse c k x ≡ Number r → x ≡ Number r
 refuse-number true k r x p = absurd (let z : _≡_ {A = ℕ} 0 1 = cc in omega arith)
 refuse-number false k r x p = p
 
-first-least : (a s e o r : ℕ) → First (crestTest a s e o) 0 (greatestCrest / 2 + 1) r → Least a s e o r
-first-least a s e o r f =
+first-least : (test : ℕ → Bool) (r : ℕ) → First test 0 (greatestCrest / 2 + 1) r → Least test r
+first-least test r f =
     record {
       even = omega arith;
       within = omega arith;
       passes = f .passes;
-      least = λ m q h t. f .before (m / 2) (omega arith) (subst (λ (x : ℕ). T (crestTest a s e o x)) (omega arith) t);
+      least = λ m q h t. f .before (m / 2) (omega arith) (subst (λ (x : ℕ). T (test x)) (omega arith) t);
     }
 
--- a length that is answered is the least even adequate one up to 2,000
-pub crest-length-number : (a s e o r : ℕ) → crestLength a s e o ≡ Number r → Least a s e o r
+-- a length that is answered is the least even one up to 2,000 that is long enough
+pub crest-length-number : (v a s e o r : ℕ) → crestLength v a s e o ≡ Number r → Least (crestTest v a s e o) r
 unfolding crestLength
-crest-length-number a s e o r p =
-    let test = crestTest a s e o in
+crest-length-number v a s e o r p =
+    let test = crestTest v a s e o in
     let n = greatestCrest / 2 + 1 in
-    first-least a s e o r
+    first-least test r
     (subst (FirstEven test 0 n)
     (refuse-number (eyeOrObjectOutside e o) heightRefused r _
     (refuse-number (outside 1 greatestSightDistance s) sightDistanceRefused r _
-    (refuse-number (outside 1 greatestDrop a) dropRefused r _ p)))
+    (refuse-number (outside 1 greatestDrop a) dropRefused r _
+    (refuse-number (outside leastSpeed greatestSpeed v) speedRefused r _ p))))
     (least-even-is test 0 n))
 
 -- so it is at most 2,000
@@ -221,27 +266,18 @@ first-even-at-most :
 first-even-at-most test (Number r) f = omega arith
 first-even-at-most test (Refused k) f = omega (arith, f .0)
 
-pub crest-length-at-most : (a s e o : ℕ) → AtMost greatestCrest (crestLength a s e o)
+pub crest-length-at-most : (v a s e o : ℕ) → AtMost greatestCrest (crestLength v a s e o)
 unfolding crestLength
-crest-length-at-most a s e o =
-    let test = crestTest a s e o in
+crest-length-at-most v a s e o =
+    let test = crestTest v a s e o in
     let n = greatestCrest / 2 + 1 in
+    refuse-at-most (outside leastSpeed greatestSpeed v) _ _ _ (omega arith) (λ i.
     refuse-at-most (outside 1 greatestDrop a) _ _ _ (omega arith) (λ p.
     refuse-at-most (outside 1 greatestSightDistance s) _ _ _ (omega arith) (λ q.
     refuse-at-most (eyeOrObjectOutside e o) _ _ _ (omega arith) (λ t.
-    first-even-at-most test (leastEven test 0 n) (least-even-is test 0 n))))
+    first-even-at-most test (leastEven test 0 n) (least-even-is test 0 n)))))
 
 -- 18 is said exactly where no even length up to 2,000 is adequate
-pub crest-length-none :
-    (a s e o : ℕ) → InRange a s e o →
-    (crestLength a s e o ≡ Refused noLengthRefused) ↔
-    ((m : ℕ) → m % 2 ≡ 0 → m ≤ greatestCrest → T (crestTest a s e o m) → ⊥)
-crest-length-none a s e o h =
-    let test = crestTest a s e o in
-    let n = greatestCrest / 2 + 1 in
-    let q = crest-length-in-range a s e o h in (
-      (λ p m w l t.
-          subst (FirstEven test 0 n) (sym q ∙ p) (least-even-is test 0 n) .1 (m / 2) (omega arith)
-          (subst (λ (x : ℕ). T (test x)) (omega arith) t)),
-      λ f. q ∙ sym (least-even-only test 0 n (Refused noLengthRefused) (refl, λ j l t. f (0 + 2 * j) (omega arith) (omega arith) t)),
-    )
+pub crest-length-none : NoneAdequate
+crest-length-none v a s e o h =
+    rw (crest-length-in-range v a s e o h) (none-adequate v a s (2 * (e + o)) (16 * e * o) (h .speed .1))

@@ -7,11 +7,11 @@
 -- Each has the form x − y ≤ √z in whole numbers. Where x ≤ y its left side is not positive and it holds; else the left
 -- side is positive, the right side is not negative, and it holds exactly when (x − y)² ≤ z.
 use Prim.Native.Nat.{ℕ, zero, suc, _+_, _*_, _-_, _/_}
-use mathlib.Core.Bool.{Bool, cond, _||_}
+use mathlib.Core.Bool.{Bool, cond, _||_, _&&_}
 use lib.Dec.{leb}
 use Rattle.terms.specs.Answers.{outside, eyeOrObjectOutside, refuse}
-use Rattle.terms.specs.Limits.{greatestDrop, greatestSightDistance, greatestCrest}
-use Rattle.terms.specs.Refusals.{dropRefused, sightDistanceRefused, heightRefused, noLengthRefused}
+use Rattle.terms.specs.Limits.{leastSpeed, greatestSpeed, greatestDrop, greatestSightDistance, greatestCrest}
+use Rattle.terms.specs.Refusals.{speedRefused, dropRefused, sightDistanceRefused, heightRefused, noLengthRefused}
 use Rattle.terms.specs.declared.Answer.{Answer}
 use Rattle.terms.specs.declared.Answer.the-variants.{Number, Refused}
 
@@ -26,16 +26,25 @@ adequate a s u w l =
     (withinRoot (a * (s * s)) (l * u) (l * l * w))
     (withinRoot (a * (2 * s - l)) u w)
 
+-- the length L reaches the Green Book's minimum for the speed V in km/h, 0.6 V metres: 3 V ≤ 5 L
+unfoldable pub reachesMinimum : ℕ → ℕ → Bool
+reachesMinimum v l = leb (3 * v) (5 * l)
+
+-- the length L is long enough: it reaches the minimum for the speed V, and it is adequate
+unfoldable pub longEnough : ℕ → ℕ → ℕ → ℕ → ℕ → ℕ → Bool
+longEnough v a s u w l = reachesMinimum v l && adequate a s u w l
+
 -- the first of n lengths l, l + 2, l + 4, … that passes the test; refused 18 where none does
 unfoldable pub leastEven : (ℕ → Bool) → ℕ → ℕ → Answer
 leastEven test l zero = Refused noLengthRefused
 leastEven test l (suc n) = cond (test l) (Number l) (leastEven test (l + 2) n)
 
--- the crest length of a drop a, a sight distance S, an eye height e and an object height o: refused 15, 16, 17, then 18;
--- else the least even adequate length from 0 to 2,000
-unfoldable pub crestLength : ℕ → ℕ → ℕ → ℕ → Answer
-crestLength a s e o =
-    refuse (outside 1 greatestDrop a) dropRefused
+-- the crest length of a speed V, a drop a, a sight distance S, an eye height e and an object height o: refused 6, 15, 16, 17,
+-- then 18; else the least even length from 0 to 2,000 that is adequate and reaches the minimum
+unfoldable pub crestLength : ℕ → ℕ → ℕ → ℕ → ℕ → Answer
+crestLength v a s e o =
+    refuse (outside leastSpeed greatestSpeed v) speedRefused
+    (refuse (outside 1 greatestDrop a) dropRefused
     (refuse (outside 1 greatestSightDistance s) sightDistanceRefused
     (refuse (eyeOrObjectOutside e o) heightRefused
-    (leastEven (adequate a s (2 * (e + o)) (16 * e * o)) 0 (greatestCrest / 2 + 1))))
+    (leastEven (longEnough v a s (2 * (e + o)) (16 * e * o)) 0 (greatestCrest / 2 + 1)))))

@@ -1,9 +1,10 @@
-// docs/RULES.md, "How long a crest must be": the least even adequate length, by whole numbers alone.
+// docs/RULES.md, "How long a crest must be": the least even length that is adequate and reaches the minimum for a speed, by whole
+// numbers alone.
 ghost use mathlib.Core.Path.{_≡_};
 ghost use Prim.Native.Nat.{_≤_, _+_, _*_, _/_};
-ghost use Rattle.crest.specs.Crest.{withinRoot, adequate, leastEven, crestLength};
+ghost use Rattle.crest.specs.Crest.{withinRoot, adequate, longEnough, leastEven, crestLength};
 ghost use Rattle.crest.specs.Sizes.{Sized};
-ghost use Rattle.terms.specs.Limits.{greatestDrop, greatestSightDistance, greatestCrest};
+ghost use Rattle.terms.specs.Limits.{greatestSpeed, greatestDrop, greatestSightDistance, greatestCrest};
 use terms::Answer;
 
 // Whether x − y ≤ √z. The largest x is a S² = 1,920,000,000, whose square is below 3.7 × 10^18.
@@ -30,17 +31,29 @@ fn adequate(a: u64, s: u64, u: u64, w: u64, l: u64) -> bool
     within_root(a * (2 * s - l), u, w)
 }
 
-// The least even adequate length from 0 to 2,000, by a binary search over half the length: about ten lengths are tested.
-fn least_even(a: u64, s: u64, u: u64, w: u64) -> Answer
-    requires { ⌜ Sized a s u w ⌝ }
-    ensures { λ r. ⌜ r ≡ leastEven (adequate a s u w) 0 (greatestCrest / 2 + 1) ⌝ }
+// Whether the length l is long enough: it reaches the minimum for the speed v, and it is adequate.
+fn long_enough(v: u64, a: u64, s: u64, u: u64, w: u64, l: u64) -> bool
+    requires { ⌜ (v ≤ greatestSpeed) × Sized a s u w × (l ≤ greatestCrest) ⌝ }
+    ensures { λ r. ⌜ r ≡ longEnough v a s u w l ⌝ }
+{
+    if 5 * l < 3 * v {
+        return false;
+    }
+    adequate(a, s, u, w, l)
+}
+
+// The least even length from 0 to 2,000 that is long enough, by a binary search over half the length: about ten lengths are
+// tested.
+fn least_even(v: u64, a: u64, s: u64, u: u64, w: u64) -> Answer
+    requires { ⌜ (v ≤ greatestSpeed) × Sized a s u w ⌝ }
+    ensures { λ r. ⌜ r ≡ leastEven (longEnough v a s u w) 0 (greatestCrest / 2 + 1) ⌝ }
 {
     let last = (terms::GREATEST_CREST / 2) as u64;
     let mut low = 0;
     let mut high = last + 1;
     while low < high {
         let half = low + (high - low) / 2;
-        if adequate(a, s, u, w, 2 * half) {
+        if long_enough(v, a, s, u, w, 2 * half) {
             high = half;
         } else {
             low = half + 1;
@@ -55,10 +68,13 @@ fn least_even(a: u64, s: u64, u: u64, w: u64) -> Answer
 }
 
 // The length that a crest with this drop in grade needs, so that an eye and an object of these heights see each other over
-// the sight distance.
-pub fn crest_length(drop: u32, sight: u32, eye: u32, object: u32) -> Answer
-    ensures { λ r. ⌜ r ≡ crestLength drop sight eye object ⌝ }
+// the sight distance, and that it reaches the minimum for the speed.
+pub fn crest_length(speed: u32, drop: u32, sight: u32, eye: u32, object: u32) -> Answer
+    ensures { λ r. ⌜ r ≡ crestLength speed drop sight eye object ⌝ }
 {
+    if terms::outside(terms::LEAST_SPEED, terms::GREATEST_SPEED, speed) {
+        return Answer::Refused(terms::SPEED_REFUSED);
+    }
     if terms::outside(1, terms::GREATEST_DROP, drop) {
         return Answer::Refused(terms::DROP_REFUSED);
     }
@@ -70,5 +86,11 @@ pub fn crest_length(drop: u32, sight: u32, eye: u32, object: u32) -> Answer
     }
     let e = eye as u64;
     let o = object as u64;
-    least_even(drop as u64, sight as u64, 2 * (e + o), 16 * e * o)
+    least_even(
+        speed as u64,
+        drop as u64,
+        sight as u64,
+        2 * (e + o),
+        16 * e * o,
+    )
 }

@@ -14,10 +14,10 @@ pub extern "C" fn vcp_required_distance(speed: u32, purpose: u32, grade: i32) ->
 }
 
 #[no_mangle]
-pub extern "C" fn vcp_crest_length(drop: u32, sight: u32, eye: u32, object: u32) -> i32
-    ensures { λ r. ⌜ r ≡ signed (crestLength drop sight eye object) ⌝ }
+pub extern "C" fn vcp_crest_length(speed: u32, drop: u32, sight: u32, eye: u32, object: u32) -> i32
+    ensures { λ r. ⌜ r ≡ signed (crestLength speed drop sight eye object) ⌝ }
 {
-    terms::signed_answer(crest::crest_length(drop, sight, eye, object)) as i32
+    terms::signed_answer(crest::crest_length(speed, drop, sight, eye, object)) as i32
 }
 
 #[no_mangle]

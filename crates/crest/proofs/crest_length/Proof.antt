@@ -4,10 +4,11 @@ use mathlib.Core.Path.{sym, _∙_}
 use native.Mathlib.Nat.{mul-le-mul}
 use native.Mathlib.Omega.{arith}
 use borrow.Author.Needs.{needs}
-use Rattle.terms.specs.Limits.{greatestDrop, greatestSightDistance}
+use Rattle.terms.specs.Limits.{leastSpeed, greatestSpeed, greatestDrop, greatestSightDistance}
 use Rattle.terms.proofs.Laws.{not-outside-in, heights-in}
 use Rattle.crest.specs.Crest.{crestLength}
-use Rattle.crest.proofs.Laws.{InRange, crest-length-in-range}
+use Rattle.crest.specs.NoneAdequate.{InRange}
+use Rattle.crest.proofs.Laws.{crest-length-in-range}
 use Rattle.crest.proofs.crest_length.Statement.{statement}
 use Rattle.crest.proofs.crest_length.Tie as tie
 
@@ -24,35 +25,54 @@ outside-requires-2 c κs = search needs
 returns-2 : tie.Need-returns-2
 unfolding crestLength
 returns-2 c =
-    let d = c .before .before in
-    simp (sym (d .before .outside .ensures) ∙ d .if1 .left, sym (c .before .outside2 .ensures) ∙ c .if2 .taken)
+    let v = c .before .before in
+    simp (sym (v .before .outside .ensures) ∙ v .if1 .left, sym (c .before .outside2 .ensures) ∙ c .if2 .taken)
 
-eye-or-object-outside-requires : tie.Need-eye-or-object-outside-requires
-eye-or-object-outside-requires c κs = search needs
+outside-requires-3 : tie.Need-outside-requires-3
+outside-requires-3 c κs = search needs
 
 returns-3 : tie.Need-returns-3
 unfolding crestLength
 returns-3 c =
-    let s = c .before .before in
-    let d = s .before .before in
+    let d = c .before .before in
+    let v = d .before .before in
     simp (
-      sym (d .before .outside .ensures) ∙ d .if1 .left,
-      sym (s .before .outside2 .ensures) ∙ s .if2 .left,
-      sym (c .before .eye-or-object-outside .ensures) ∙ c .if3 .taken,
+      sym (v .before .outside .ensures) ∙ v .if1 .left,
+      sym (d .before .outside2 .ensures) ∙ d .if2 .left,
+      sym (c .before .outside3 .ensures) ∙ c .if3 .taken,
     )
 
--- past the three tests all numbers are in their ranges
+eye-or-object-outside-requires : tie.Need-eye-or-object-outside-requires
+eye-or-object-outside-requires c κs = search needs
+
+returns-4 : tie.Need-returns-4
+unfolding crestLength
+returns-4 c =
+    let s = c .before .before in
+    let d = s .before .before in
+    let v = d .before .before in
+    simp (
+      sym (v .before .outside .ensures) ∙ v .if1 .left,
+      sym (d .before .outside2 .ensures) ∙ d .if2 .left,
+      sym (s .before .outside3 .ensures) ∙ s .if3 .left,
+      sym (c .before .eye-or-object-outside .ensures) ∙ c .if4 .taken,
+    )
+
+-- past the four tests all numbers are in their ranges
 in-range :
-    (c : tie.Else3) →
-    let x = c .before .before .before .before .before .before .args in InRange (x .drop) (x .sight) (x .eye) (x .object)
+    (c : tie.Else4) →
+    let d = c .before .before .before .before in
+    let x = d .before .before .before .before .args in InRange (x .speed) (x .drop) (x .sight) (x .eye) (x .object)
 in-range c =
     let s = c .before .before in
     let d = s .before .before in
-    let x = d .before .before .args in
-    let h = heights-in (x .eye) (x .object) (sym (c .before .eye-or-object-outside .ensures) ∙ c .if3 .left) in
+    let v = d .before .before in
+    let x = v .before .before .args in
+    let h = heights-in (x .eye) (x .object) (sym (c .before .eye-or-object-outside .ensures) ∙ c .if4 .left) in
     record {
-      drop = not-outside-in 1 greatestDrop _ (sym (d .before .outside .ensures) ∙ d .if1 .left);
-      sight = not-outside-in 1 greatestSightDistance _ (sym (s .before .outside2 .ensures) ∙ s .if2 .left);
+      speed = not-outside-in leastSpeed greatestSpeed _ (sym (v .before .outside .ensures) ∙ v .if1 .left);
+      drop = not-outside-in 1 greatestDrop _ (sym (d .before .outside2 .ensures) ∙ d .if2 .left);
+      sight = not-outside-in 1 greatestSightDistance _ (sym (s .before .outside3 .ensures) ∙ s .if3 .left);
       eye = h .0;
       object = h .1;
     }
@@ -71,16 +91,18 @@ mul-least-even-3 c = let r = in-range c in omega (arith, mul-le-mul (r .eye .1) 
 
 least-even-requires : tie.Need-least-even-requires
 least-even-requires c κs =
-    let r = in-range c in
-    record {
-      drop = r .drop .1;
-      sight = r .sight .1;
-      whole-part = omega (arith, r .eye .1, r .object .1);
-      under-root = omega (arith, mul-le-mul (r .eye .1) (r .object .1));
-    }
+    let r = in-range c in (
+      r .speed .1,
+      record {
+        drop = r .drop .1;
+        sight = r .sight .1;
+        whole-part = omega (arith, r .eye .1, r .object .1);
+        under-root = omega (arith, mul-le-mul (r .eye .1) (r .object .1));
+      },
+    )
 
-returns-4 : tie.Need-returns-4
-returns-4 c = c .least-even .ensures ∙ sym (crest-length-in-range _ _ _ _ (in-range (c .before)))
+returns-5 : tie.Need-returns-5
+returns-5 c = c .least-even .ensures ∙ sym (crest-length-in-range _ _ _ _ _ (in-range (c .before)))
 
 pub crest-length-spec : {M : Type 1} → statement M
 crest-length-spec =
@@ -90,11 +112,13 @@ crest-length-spec =
     returns
     outside-requires-2
     returns-2
-    eye-or-object-outside-requires
+    outside-requires-3
     returns-3
+    eye-or-object-outside-requires
+    returns-4
     add-least-even
     mul-least-even
     mul-least-even-2
     mul-least-even-3
     least-even-requires
-    returns-4)
+    returns-5)

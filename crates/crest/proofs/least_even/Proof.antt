@@ -1,7 +1,7 @@
--- A binary search over half lengths. The invariant: every half length below `low` is inadequate, and `high` is adequate
--- or past the last. The measure is what lies between. A test of the middle moves one end, since adequacy never falls
--- away as the length grows (`adequate-mono`); where the ends meet they are the first that passes, and the definition has
--- no other answer (`least-even-only`).
+-- A binary search over half lengths. The invariant: no half length below `low` is long enough, and `high` is long enough
+-- or past the last. The measure is what lies between. A test of the middle moves one end, since a longer crest is long
+-- enough where a shorter one is (`long-enough-mono`); where the ends meet they are the first that passes, and the definition
+-- has no other answer (`least-even-only`).
 use Prim.Native.Nat.{ℕ, _≤_, _<_, _-_, _+_, _*_, _/_}
 use native.Mathlib.Omega.{arith}
 use mathlib.Core.Bool.{Bool, true, false}
@@ -11,8 +11,8 @@ use lib.Dec.{T}
 use Rattle.terms.specs.Limits.{greatestCrest}
 use Rattle.terms.specs.Refusals.{noLengthRefused}
 use Rattle.terms.specs.declared.Answer.the-variants.{Number, Refused}
-use Rattle.crest.specs.Crest.{adequate, leastEven}
-use Rattle.crest.proofs.Laws.{adequate-mono, least-even-only}
+use Rattle.crest.specs.Crest.{longEnough, leastEven}
+use Rattle.crest.proofs.Laws.{long-enough-mono, least-even-only}
 use Rattle.crest.proofs.least_even.Statement.{statement}
 use Rattle.crest.proofs.least_even.Tie as tie
 
@@ -22,48 +22,48 @@ record Searched (test : ℕ → Bool) (low high : ℕ) : Type 0 where
   below : (j : ℕ) → j < low → T (test (2 * j)) → ⊥
   found : high ≤ greatestCrest / 2 → T (test (2 * high))
 
-module _ (a s u w low high : ℕ) (i : Searched (adequate a s u w) low high) where
+module _ (v a s u w low high : ℕ) (i : Searched (longEnough v a s u w) low high) where
   lowered :
-      (half : ℕ) → low ≤ half → half < high → adequate a s u w (2 * half) ≡ true →
-      Searched (adequate a s u w) low half
+      (half : ℕ) → low ≤ half → half < high → longEnough v a s u w (2 * half) ≡ true →
+      Searched (longEnough v a s u w) low half
   lowered half h k t = record { ordered = h; within = omega arith; below = i .below; found = λ _. rw t tt }
 
   raised :
-      (half : ℕ) → half < high → adequate a s u w (2 * half) ≡ false →
-      Searched (adequate a s u w) (half + 1) high
+      (half : ℕ) → half < high → longEnough v a s u w (2 * half) ≡ false →
+      Searched (longEnough v a s u w) (half + 1) high
   raised half h t =
       record {
         ordered = omega arith;
         within = i .within;
         found = i .found;
-        below = λ j k p. rw t at (adequate-mono a s u w (2 * j) (2 * half) (omega arith) p);
+        below = λ j k p. rw t at (long-enough-mono v a s u w (2 * j) (2 * half) (omega arith) p);
       }
 
   past-all :
       high ≤ low → greatestCrest / 2 < high →
-      Refused noLengthRefused ≡ leastEven (adequate a s u w) 0 (greatestCrest / 2 + 1)
+      Refused noLengthRefused ≡ leastEven (longEnough v a s u w) 0 (greatestCrest / 2 + 1)
   past-all h k =
-      least-even-only (adequate a s u w) 0 (greatestCrest / 2 + 1) (Refused noLengthRefused)
-      (refl, λ j l t. i .below j (omega arith) (subst (λ (x : ℕ). T (adequate a s u w x)) (omega arith) t))
+      least-even-only (longEnough v a s u w) 0 (greatestCrest / 2 + 1) (Refused noLengthRefused)
+      (refl, λ j l t. i .below j (omega arith) (subst (λ (x : ℕ). T (longEnough v a s u w x)) (omega arith) t))
 
   met :
       high ≤ low → high ≤ greatestCrest / 2 →
-      Number (2 * high) ≡ leastEven (adequate a s u w) 0 (greatestCrest / 2 + 1)
+      Number (2 * high) ≡ leastEven (longEnough v a s u w) 0 (greatestCrest / 2 + 1)
   met h k =
-      least-even-only (adequate a s u w) 0 (greatestCrest / 2 + 1) (Number (2 * high))
+      least-even-only (longEnough v a s u w) 0 (greatestCrest / 2 + 1) (Number (2 * high))
       (record {
         index = high;
         within = omega arith;
         place = omega arith;
         passes = i .found k;
-        before = λ j l t. i .below j (omega arith) (subst (λ (x : ℕ). T (adequate a s u w x)) (omega arith) t);
+        before = λ j l t. i .below j (omega arith) (subst (λ (x : ℕ). T (longEnough v a s u w x)) (omega arith) t);
       })
 
 abbrev Inv-loop : tie.InvT-loop
-Inv-loop a s u w last low₀ high₀ low high = Searched (adequate a s u w) low high
+Inv-loop v a s u w last low₀ high₀ low high = Searched (longEnough v a s u w) low high
 
 abbrev μ-loop : tie.MeasureT-loop
-μ-loop a s u w last low₀ high₀ low high = high - low
+μ-loop v a s u w last low₀ high₀ low high = high - low
 
 cast-last : tie.Need-cast-last Inv-loop μ-loop
 cast-last c = search needs
@@ -80,19 +80,19 @@ sub-half c = search needs
 add-half : tie.Need-add-half Inv-loop μ-loop
 add-half c = search needs
 
-mul-adequate : tie.Need-mul-adequate Inv-loop μ-loop
-mul-adequate c = search needs
+mul-long-enough : tie.Need-mul-long-enough Inv-loop μ-loop
+mul-long-enough c = search needs
 
-adequate-requires : tie.Need-adequate-requires Inv-loop μ-loop
-adequate-requires c κs = (c .before .before .pre, omega arith)
+long-enough-requires : tie.Need-long-enough-requires Inv-loop μ-loop
+long-enough-requires c κs = let p = c .before .before .pre in (p .0, p .1, omega arith)
 
 loop-less : tie.Need-loop-less Inv-loop μ-loop
 loop-less c = search needs
 
 loop-again : tie.Need-loop-again Inv-loop μ-loop
 loop-again c =
-    lowered _ _ _ _ _ _ (c .before .before .before .loop .inv) _ (omega arith) (omega arith)
-    (sym (c .before .adequate .ensures) ∙ c .if1 .taken)
+    lowered _ _ _ _ _ _ _ (c .before .before .before .loop .inv) _ (omega arith) (omega arith)
+    (sym (c .before .long-enough .ensures) ∙ c .if1 .taken)
 
 add-low : tie.Need-add-low Inv-loop μ-loop
 add-low c = search needs
@@ -102,11 +102,11 @@ loop-less-2 c = search needs
 
 loop-again-2 : tie.Need-loop-again-2 Inv-loop μ-loop
 loop-again-2 c =
-    raised _ _ _ _ _ _ (c .before .before .before .loop .inv) _ (omega arith)
-    (sym (c .before .adequate .ensures) ∙ c .if1 .left)
+    raised _ _ _ _ _ _ _ (c .before .before .before .loop .inv) _ (omega arith)
+    (sym (c .before .long-enough .ensures) ∙ c .if1 .left)
 
 returns : tie.Need-returns Inv-loop μ-loop
-returns c = past-all _ _ _ _ _ _ (c .before .before .loop .inv) (omega arith) (omega arith)
+returns c = past-all _ _ _ _ _ _ _ (c .before .before .loop .inv) (omega arith) (omega arith)
 
 mul-length : tie.Need-mul-length Inv-loop μ-loop
 mul-length c = search needs
@@ -115,7 +115,7 @@ cast-metres : tie.Need-cast-metres Inv-loop μ-loop
 cast-metres c = search needs
 
 returns-2 : tie.Need-returns-2 Inv-loop μ-loop
-returns-2 c = met _ _ _ _ _ _ (c .before .before .loop .inv) (omega arith) (omega arith)
+returns-2 c = met _ _ _ _ _ _ _ (c .before .before .loop .inv) (omega arith) (omega arith)
 
 pub least-even-spec : {M : Type 1} → statement M
 least-even-spec =
@@ -128,8 +128,8 @@ least-even-spec =
     loop-holds
     sub-half
     add-half
-    mul-adequate
-    adequate-requires
+    mul-long-enough
+    long-enough-requires
     loop-less
     loop-again
     add-low

@@ -18,12 +18,12 @@ signed-answer-requires c κs = search needs
 
 -- what is asked for
 abbrev asked : tie.After-signed-answer → Answer
-asked c = let x = c .before .before .args in crestLength (x .drop) (x .sight) (x .eye) (x .object)
+asked c = let x = c .before .before .args in crestLength (x .speed) (x .drop) (x .sight) (x .eye) (x .object)
 
 narrow : (c : tie.After-signed-answer) → Narrows (c .signed-answer .result) (asked c)
 narrow c =
     let x = c .before .before .args in
-    narrows greatestCrest _ (asked c) (crest-length-at-most (x .drop) (x .sight) (x .eye) (x .object)) tt (c .signed-answer .ok)
+    narrows greatestCrest _ (asked c) (crest-length-at-most (x .speed) (x .drop) (x .sight) (x .eye) (x .object)) tt (c .signed-answer .ok)
     (c .signed-answer .ensures ∙ ap signed (c .before .crest-length .ensures))
 
 cast-result : tie.Need-cast-result
