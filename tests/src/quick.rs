@@ -116,8 +116,11 @@ fn within_root(x: u64, y: u64, z: u64) -> bool {
     x <= y || (x - y) * (x - y) <= z
 }
 
-/// The least even adequate length, by a binary search over half the length.
+/// The least even length that is adequate and at least 0.6 V, by a binary search over half the length.
 pub fn crest_length(crest: Crest) -> Answer {
+    if !(20..=130).contains(&crest.speed) {
+        return Err(6);
+    }
     if !(1..=3_000).contains(&crest.drop) {
         return Err(15);
     }
@@ -127,7 +130,7 @@ pub fn crest_length(crest: Crest) -> Answer {
     if !(1..=50_000).contains(&crest.eye) || !(1..=50_000).contains(&crest.object) {
         return Err(17);
     }
-    let [a, s, e, o] = [crest.drop, crest.sight, crest.eye, crest.object].map(u64::from);
+    let [v, a, s, e, o] = [crest.speed, crest.drop, crest.sight, crest.eye, crest.object].map(u64::from);
     let (without_root, radicand) = (2 * (e + o), 16 * e * o);
     let adequate = |l: u64| {
         if s <= l {
@@ -139,7 +142,7 @@ pub fn crest_length(crest: Crest) -> Answer {
     let (mut low, mut high) = (0, 1_001);
     while low < high {
         let half = (low + high) / 2;
-        if adequate(2 * half) {
+        if 3 * v <= 10 * half && adequate(2 * half) {
             high = half;
         } else {
             low = half + 1;

@@ -1,18 +1,35 @@
 //! docs/RULES.md, "How long a crest must be".
 
+use std::ops::RangeInclusive;
+
 use sight_tests::bare;
 use sight_tests::random::Random;
-use sight_tests::reference::crest::{crest_length, Crest};
+use sight_tests::reference::crest::{adequate, crest_length, Crest};
 use sight_tests::reference::marks::{EYE, OBJECT};
 use sight_tests::reference::Answer;
 use sight_tests::tally::Tally;
 
+/// The slowest speed, and 0.6 V metres for it: of all speeds it hides the fewest adequate lengths.
+const SLOWEST: u32 = 20;
+const SHORTEST: u32 = 12;
+
+/// A crest at the slowest speed.
 fn crest(drop: u32, sight: u32, eye: u32, object: u32) -> Crest {
-    Crest { drop, sight, eye, object }
+    Crest { speed: SLOWEST, drop, sight, eye, object }
+}
+
+/// The same crest at another speed.
+fn at(speed: u32, crest: Crest) -> Crest {
+    Crest { speed, ..crest }
+}
+
+/// The least even length of at least 0.6 V metres: half of it is 0.3 V, rounded up.
+fn minimum(speed: u32) -> u32 {
+    2 * (3 * speed).div_ceil(10)
 }
 
 fn van_length(crest: Crest) -> Answer {
-    bare(vcp::crest_length(crest.drop, crest.sight, crest.eye, crest.object))
+    bare(vcp::crest_length(crest.speed, crest.drop, crest.sight, crest.eye, crest.object))
 }
 
 /// The van and the second calculation both give this answer.
@@ -31,21 +48,92 @@ fn compare(crest: Crest) -> Answer {
 #[test]
 fn cases_of_the_rules() {
     for (drop, sight, answer) in
-        [(600, 130, Ok(156)), (300, 130, Ok(42)), (253, 130, Ok(0)), (254, 130, Ok(2)), (3_000, 800, Err(18))]
+        [(600, 130, Ok(156)), (300, 130, Ok(48)), (253, 130, Ok(48)), (254, 130, Ok(48)), (3_000, 800, Err(18))]
     {
-        expect(crest(drop, sight, EYE, OBJECT), answer);
+        expect(at(80, crest(drop, sight, EYE, OBJECT)), answer);
     }
+    for (drop, least) in [(600, 156), (300, 42), (253, 0), (254, 2)] {
+        assert_eq!(least_adequate(crest(drop, 130, EYE, OBJECT)), Some(least), "drop {drop}");
+    }
+}
+
+/// The least even length that is adequate, whatever the speed is.
+fn least_adequate(crest: Crest) -> Option<u32> {
+    (0..=2_000).step_by(2).find(|&length| adequate(crest, length))
+}
+
+/// 0.6 V worked by hand, with the next even metre where it is none itself: 12.6 and 13.8 up to 14, 14.4 up to 16, 29.4 up to
+/// 30, 30.6 up to 32, 77.4 up to 78. A flat break needs no more; at 70 km/h 0.6 V is just the least adequate length of the
+/// rules' drop of 3 %.
+#[test]
+fn no_crest_is_shorter_than_the_minimum() {
+    let flat = crest(253, 130, EYE, OBJECT);
+    for (speed, length) in [
+        (20, 12),
+        (21, 14),
+        (23, 14),
+        (24, 16),
+        (30, 18),
+        (40, 24),
+        (49, 30),
+        (50, 30),
+        (51, 32),
+        (60, 36),
+        (70, 42),
+        (80, 48),
+        (90, 54),
+        (100, 60),
+        (110, 66),
+        (120, 72),
+        (129, 78),
+        (130, 78),
+    ] {
+        assert_eq!(minimum(speed), length, "{speed} km/h");
+        expect(at(speed, flat), Ok(length));
+        expect(at(speed, crest(1, 1, 1, 1)), Ok(length));
+    }
+    for (speed, length) in [(20, 42), (69, 42), (70, 42), (71, 44)] {
+        expect(at(speed, crest(300, 130, EYE, OBJECT)), Ok(length));
+    }
+}
+
+/// At every speed the answer is the greater of the minimum and the least adequate length; where there is no adequate
+/// length it is 18 at every speed, also where 2,000 m are just too short.
+#[test]
+fn the_speed_moves_short_lengths_alone() {
+    let mut random = Random::new(3);
+    let (mut moved, mut kept, mut refused) = (0, 0, 0);
+    for speed in 20..=130 {
+        expect(at(speed, crest(1_000, 400, 10_000, 10_000)), Ok(2_000));
+        expect(at(speed, crest(1_001, 400, 10_000, 10_000)), Err(18));
+        expect(at(speed, crest(1_000, 400, 9_999, 10_000)), Err(18));
+        for _ in 0..300 {
+            let (drop, sight) = (random.of_any_size(3_000), random.of_any_size(800));
+            let crest = at(speed, crest(drop, sight, random.of_any_size(50_000), random.of_any_size(50_000)));
+            let least = least_adequate(crest);
+            expect(crest, least.map(|least| least.max(minimum(speed))).ok_or(18));
+            match least {
+                Some(least) if least < minimum(speed) => moved += 1,
+                Some(_) => kept += 1,
+                None => refused += 1,
+            }
+        }
+    }
+    assert!(moved > 5_000 && kept > 5_000 && refused > 1_000, "{moved}, {kept}, {refused}");
 }
 
 #[test]
 fn refusals_at_each_edge() {
-    for (drop, answer) in [(0, Err(15)), (1, Ok(0)), (3_000, Ok(1_974)), (3_001, Err(15))] {
+    for (speed, answer) in [(0, Err(6)), (19, Err(6)), (20, Ok(156)), (130, Ok(156)), (131, Err(6))] {
+        expect(at(speed, crest(600, 130, EYE, OBJECT)), answer);
+    }
+    for (drop, answer) in [(0, Err(15)), (1, Ok(SHORTEST)), (3_000, Ok(1_974)), (3_001, Err(15))] {
         expect(crest(drop, 208, EYE, OBJECT), answer);
     }
-    for (sight, answer) in [(0, Err(16)), (1, Ok(0)), (800, Ok(1_558)), (801, Err(16))] {
+    for (sight, answer) in [(0, Err(16)), (1, Ok(SHORTEST)), (800, Ok(1_558)), (801, Err(16))] {
         expect(crest(160, sight, EYE, OBJECT), answer);
     }
-    for (height, answer) in [(0, Err(17)), (1, Ok(352)), (50_000, Ok(0)), (50_001, Err(17))] {
+    for (height, answer) in [(0, Err(17)), (1, Ok(352)), (50_000, Ok(SHORTEST)), (50_001, Err(17))] {
         expect(crest(300, 120, height, OBJECT), answer);
         expect(crest(300, 120, OBJECT, height), answer);
     }
@@ -54,6 +142,12 @@ fn refusals_at_each_edge() {
 /// With more than one fault the lowest number decides; 18 comes after all of them.
 #[test]
 fn refusals_in_order() {
+    for speed in [0, 19, 131, u32::MAX] {
+        for (drop, sight, height) in [(0, 0, 0), (3_001, 801, 50_001), (0, 130, EYE), (600, 0, EYE), (600, 130, 0)] {
+            expect(at(speed, crest(drop, sight, height, height)), Err(6));
+        }
+        expect(at(speed, crest(3_000, 800, 1, 1)), Err(6));
+    }
     for (drop, sight) in [(0, 0), (3_001, 801)] {
         for height in [0, 50_001] {
             expect(crest(drop, sight, height, height), Err(15));
@@ -92,7 +186,7 @@ fn just_adequate_where_the_sight_is_within_the_curve() {
 
 /// Where L < S, with heights whose root is whole and Q = 2 a²: the length 2S − 2a is just adequate, a (2S − L) = Q. A unit
 /// more in the drop, or less in either height, makes it too short by one step of 2 m; a unit less in the drop saves one,
-/// and a unit more in either height saves nothing.
+/// and a unit more in either height saves nothing. Where that is below 12 m the minimum is the answer.
 #[test]
 fn just_adequate_where_the_sight_is_beyond_the_curve() {
     // Q = 8 o, 18 o and 32 o again.
@@ -100,18 +194,15 @@ fn just_adequate_where_the_sight_is_beyond_the_curve() {
         for (eye, object) in [(eye, object), (object, eye)] {
             for sight in drop + 1..2 * drop {
                 let length = 2 * (sight - drop);
-                expect(crest(drop, sight, eye, object), Ok(length));
-                expect(crest(drop + 1, sight, eye, object), Ok(length + 2));
-                expect(crest(drop - 1, sight, eye, object), Ok(length - 2));
-                expect(crest(drop, sight, eye - 1, object), Ok(length + 2));
-                expect(crest(drop, sight, eye, object - 1), Ok(length + 2));
-                expect(crest(drop, sight, eye + 1, object), Ok(length));
-                expect(crest(drop, sight, eye, object + 1), Ok(length));
+                let or_minimum = |length: u32| Ok(length.max(SHORTEST));
+                expect(crest(drop, sight, eye, object), or_minimum(length));
+                expect(crest(drop + 1, sight, eye, object), or_minimum(length + 2));
+                expect(crest(drop - 1, sight, eye, object), or_minimum(length - 2));
+                expect(crest(drop, sight, eye - 1, object), or_minimum(length + 2));
+                expect(crest(drop, sight, eye, object - 1), or_minimum(length + 2));
+                expect(crest(drop, sight, eye + 1, object), or_minimum(length));
+                expect(crest(drop, sight, eye, object + 1), or_minimum(length));
             }
-            expect(crest(drop, drop, eye, object), Ok(0));
-            expect(crest(drop + 1, drop, eye, object), Ok(2));
-            expect(crest(drop, drop, eye - 1, object), Ok(2));
-            expect(crest(drop, drop, eye, object - 1), Ok(2));
         }
     }
 }
@@ -120,7 +211,7 @@ fn just_adequate_where_the_sight_is_beyond_the_curve() {
 #[test]
 fn odd_lengths_are_passed_over() {
     // Q = 80,000 = 128 × 625, so the least adequate length is 2S − 625.
-    for sight in 313..625 {
+    for sight in 319..625 {
         expect(crest(128, sight, 10_000, 10_000), Ok(2 * sight - 624));
     }
     // Q = 80,000 and S = 200, so the least adequate length is a / 2.
@@ -130,25 +221,31 @@ fn odd_lengths_are_passed_over() {
 }
 
 /// Source document 002, equations (9) and (10), for eye 1.08 m and object 0.60 m: L = A S² / 658 where the sight is within
-/// the curve, else 2S − 658 / A, with A in percent. The van's length is the next even one, up to the rounding in 658.
+/// the curve, else 2S − 658 / A, with A in percent. The van's length is the next even one, up to the rounding in 658, or the
+/// minimum, at every speed.
 #[test]
 fn lengths_of_the_aashto_equations() {
-    let (mut none, mut lengths, mut refused) = (0, 0, 0);
+    let (mut shortest, mut lengths, mut refused) = (0, 0, 0);
     for drop in (1..=3_000).step_by(7) {
         for sight in (1..=800).step_by(3) {
             let (a, s) = (i64::from(drop), i64::from(sight));
             let tenths = if a * s >= 65_800 { 10 * a * s * s / 65_800 } else { 20 * s - 658_000 / a };
-            let answer = van_length(crest(drop, sight, EYE, OBJECT));
+            let speed = 20 + (drop + sight) % 111;
+            let shortest_tenths = 10 * i64::from(minimum(speed));
+            let answer = van_length(at(speed, crest(drop, sight, EYE, OBJECT)));
             let (agrees, kind) = match answer {
                 Err(refusal) => (refusal == 18 && tenths >= 19_999, &mut refused),
-                Ok(0) => (tenths <= 1, &mut none),
+                Ok(length) if length == minimum(speed) => (tenths <= shortest_tenths + 1, &mut shortest),
                 Ok(length) => ((-1..=21).contains(&(10 * i64::from(length) - tenths)), &mut lengths),
             };
-            assert!(agrees, "drop {drop}, sight {sight}: van {answer:?}, equations {tenths} tenths of a metre");
+            assert!(
+                agrees,
+                "{speed} km/h, drop {drop}, sight {sight}: van {answer:?}, equations {tenths} tenths of a metre"
+            );
             *kind += 1;
         }
     }
-    assert!(none > 5_000 && lengths > 40_000 && refused > 40_000, "{none}, {lengths}, {refused}");
+    assert!(shortest > 5_000 && lengths > 40_000 && refused > 40_000, "{shortest}, {lengths}, {refused}");
 }
 
 /// Edges of the accepted ranges and of the widths of whole numbers, and numbers that a 16-bit cast would bring back into
@@ -159,37 +256,43 @@ fn far_beyond_the_ranges() {
         0, 1, 2, 799, 800, 801, 2999, 3000, 3001, 49999, 50000, 50001, 65535, 65536, 66236, 2147483647, 2147483648,
         4294967295,
     ];
+    // 256 + 20 and 65,536 + 20 would be 20 km/h in fewer bits.
+    let speeds = [20, 130, 0, 19, 131, 276, 65_556, 2_147_483_648, 4_294_967_295];
     let mut tally = Tally::default();
-    for drop in values {
-        for sight in values {
-            for eye in values {
-                for object in values {
-                    tally.count(compare(crest(drop, sight, eye, object)));
+    for speed in speeds {
+        for drop in values {
+            for sight in values {
+                for eye in values {
+                    for object in values {
+                        tally.count(compare(at(speed, crest(drop, sight, eye, object))));
+                    }
                 }
             }
         }
     }
-    let (many, drops, sights, heights) = (values.len(), 7, 4, 10);
-    assert_eq!(tally.refused(15), (many - drops) * many.pow(3));
-    assert_eq!(tally.refused(16), drops * (many - sights) * many.pow(2));
-    assert_eq!(tally.refused(17), drops * sights * (many.pow(2) - heights * heights));
-    assert_eq!(tally.numbers() + tally.refused(18), drops * sights * heights * heights);
-    assert!(tally.numbers() > 500 && tally.refused(18) > 500);
+    let (many, accepted, drops, sights, heights) = (values.len(), 2, 7, 4, 10);
+    assert_eq!(tally.refused(6), (speeds.len() - accepted) * many.pow(4));
+    assert_eq!(tally.refused(15), accepted * (many - drops) * many.pow(3));
+    assert_eq!(tally.refused(16), accepted * drops * (many - sights) * many.pow(2));
+    assert_eq!(tally.refused(17), accepted * drops * sights * (many.pow(2) - heights * heights));
+    assert_eq!(tally.numbers() + tally.refused(18), accepted * drops * sights * heights * heights);
+    assert!(tally.numbers() > 1_000 && tally.refused(18) > 1_000);
 }
 
 #[test]
 fn random_crests_within_the_ranges() {
     let mut random = Random::new(1);
     let mut tally = Tally::default();
-    let (mut none, mut beyond, mut within) = (0, 0, 0);
+    let (mut shortest, mut beyond, mut within) = (0, 0, 0);
     for _ in 0..200_000 {
         let drop = random.of_any_size(3_000);
         let sight = random.within(1..=800);
-        let crest = crest(drop, sight, random.of_any_size(50_000), random.of_any_size(50_000));
+        let speed = random.within(20..=130);
+        let crest = at(speed, crest(drop, sight, random.of_any_size(50_000), random.of_any_size(50_000)));
         let answer = compare(crest);
         tally.count(answer);
         match answer {
-            Ok(0) => none += 1,
+            Ok(length) if length == minimum(speed) => shortest += 1,
             Ok(length) if length < sight => beyond += 1,
             Ok(_) => within += 1,
             Err(_) => {}
@@ -197,7 +300,7 @@ fn random_crests_within_the_ranges() {
     }
     assert_eq!(tally.numbers() + tally.refused(18), 200_000);
     assert!(tally.refused(18) > 10_000, "{} refused 18", tally.refused(18));
-    assert!(none > 10_000, "{none} of length 0");
+    assert!(shortest > 10_000, "{shortest} of the minimum's length");
     assert!(beyond > 10_000, "{beyond} with the sight beyond the curve");
     assert!(within > 10_000, "{within} with the sight within the curve");
 }
@@ -205,22 +308,24 @@ fn random_crests_within_the_ranges() {
 /// Each number is within its range, at or just beyond an edge of it, or anything.
 #[test]
 fn random_crests_in_and_out_of_the_ranges() {
-    fn draw(random: &mut Random, greatest: u32) -> u32 {
+    fn draw(random: &mut Random, range: RangeInclusive<u32>) -> u32 {
+        let (&least, &greatest) = (range.start(), range.end());
         match random.within(0..=9) {
-            0 => random.one_of(&[0, 1, greatest, greatest + 1]),
+            0 => random.one_of(&[least - 1, least, greatest, greatest + 1]),
             1 => random.bits() as u32,
-            _ => random.within(1..=greatest),
+            _ => random.within(range),
         }
     }
     let mut random = Random::new(2);
     let mut tally = Tally::default();
     for _ in 0..200_000 {
-        let (drop, sight) = (draw(&mut random, 3_000), draw(&mut random, 800));
-        let (eye, object) = (draw(&mut random, 50_000), draw(&mut random, 50_000));
-        tally.count(compare(crest(drop, sight, eye, object)));
+        let speed = draw(&mut random, 20..=130);
+        let (drop, sight) = (draw(&mut random, 1..=3_000), draw(&mut random, 1..=800));
+        let (eye, object) = (draw(&mut random, 1..=50_000), draw(&mut random, 1..=50_000));
+        tally.count(compare(at(speed, crest(drop, sight, eye, object))));
     }
     assert!(tally.numbers() > 20_000, "{} numbers", tally.numbers());
-    for refusal in 15..=18 {
+    for refusal in [6, 15, 16, 17, 18] {
         assert!(tally.refused(refusal) > 10_000, "{} refused {refusal}", tally.refused(refusal));
     }
 }

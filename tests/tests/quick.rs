@@ -58,17 +58,19 @@ fn crest_lengths() {
     let mut random = Random::new(82);
     let mut tally = Tally::default();
     for _ in 0..2_000 {
-        let mut number = |greatest: u32| match random.within(0..=19) {
+        let number = |greatest: u32| match random.within(0..=19) {
             0 => random.one_of(&[0, greatest + 1]),
             _ => random.of_any_size(greatest),
         };
-        let crest = Crest { drop: number(3_000), sight: number(800), eye: number(50_000), object: number(50_000) };
+        let [drop, sight, eye, object] = [3_000, 800, 50_000, 50_000].map(number);
+        let speed = if random.once_in(20) { random.one_of(&[19, 131]) } else { random.within(20..=130) };
+        let crest = Crest { speed, drop, sight, eye, object };
         let answer = quick::crest_length(crest);
         assert_eq!(answer, crest_length(crest), "{crest:?}");
         tally.count(answer);
     }
     assert!(tally.numbers() > 1_000, "{} numbers", tally.numbers());
-    for refusal in 15..=18 {
+    for refusal in [6, 15, 16, 17, 18] {
         assert!(tally.refused(refusal) > 50, "{} refused {refusal}", tally.refused(refusal));
     }
 }

@@ -172,16 +172,15 @@ pub fn distance(given: &Given, output: &mut Output) -> Result<u8, Trouble> {
 
 /// `vcp crest`.
 pub fn crest(given: &Given, output: &mut Output) -> Result<u8, Trouble> {
+    let speed = given.needed("--speed", |text| WHOLE.read(text))?;
     let drop = given.needed("--drop", |text| GRADE.read(text))?;
+    let sight = given.option("--sight", |text| WHOLE.read(text))?;
     let eye = given.number("--eye", HEIGHT, EYE_HEIGHT)?;
     let object = given.number("--object", HEIGHT, OBJECT_HEIGHT)?;
     let refused = Trouble::refused("vcp crest");
-    let whole = |name: &str| given.option(name, |text| WHOLE.read(text));
-    let sight = match (whole("--sight")?, whole("--speed")?) {
-        (Some(sight), None) => sight,
-        (None, Some(speed)) => vcp::required_distance(speed, purpose::STOPPING, LEVEL).map_err(&refused)?,
-        (None, None) => return Err(given.wrong("--sight or --speed is missing")),
-        (Some(_), Some(_)) => return Err(given.wrong("--sight and --speed exclude each other")),
+    let sight = match sight {
+        Some(sight) => sight,
+        None => vcp::required_distance(speed, purpose::STOPPING, LEVEL).map_err(&refused)?,
     };
-    print(output, vcp::crest_length(drop, sight, eye, object).map_err(&refused)?)
+    print(output, vcp::crest_length(speed, drop, sight, eye, object).map_err(&refused)?)
 }

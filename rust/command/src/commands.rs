@@ -60,6 +60,7 @@ const FROM: Choice = choice("--from", "M", "the first station (0)");
 const TO: Choice = choice("--to", "M", "the last station (the road's end)");
 const EYE: Choice = choice("--eye", "M", "height of the eye above the road, in m (1.08)");
 const OBJECT: Choice = choice("--object", "M", "height of the object, in m (0.60)");
+const SPEED: Choice = needed("--speed", "KMH", "the speed in km/h");
 const GRADE: Choice = choice("--grade", "PERCENT", "the road's grade, uphill positive, as -6.00 (0.00)");
 
 pub const COMMANDS: [Command; 10] = [
@@ -124,11 +125,7 @@ metre, at most 8001 of them. The first station may be any. A gap, a station
 twice or a line that cannot be read is an error with its line. Without --grade
 the road is taken as level: give the grade that 'vcp report' names for it.",
         operands: Operands { names: &["HEIGHTS"], more: false },
-        options: &[
-            needed("--speed", "KMH", "the speed in km/h"),
-            needed("--purpose", "PURPOSE", "the decision, A to E or 1 to 5"),
-            GRADE,
-        ],
+        options: &[SPEED, needed("--purpose", "PURPOSE", "the decision, A to E or 1 to 5"), GRADE],
         run: answers::check,
     },
     Command {
@@ -185,15 +182,15 @@ every grade.",
         name: "crest",
         prints: "the least length of a crest in m",
         details: "\
-The least even length over which the object is seen from the sight distance. One
-of --sight and --speed is given: with --speed the sight distance is the stopping
-distance of that speed on the level. For a road that falls give --sight, with
-what 'vcp distance' prints for --grade.",
+The least even length over which the object is seen from the sight distance, and
+which is at least 0.6 m for each km/h of the speed. Without --sight the sight
+distance is the stopping distance of that speed on the level. For a road that
+falls give --sight, with what 'vcp distance' prints for --grade.",
         operands: Operands { names: &[], more: false },
         options: &[
+            SPEED,
             needed("--drop", "PERCENT", "how much the grade falls, as 6.00"),
-            choice("--sight", "M", "the sight distance"),
-            choice("--speed", "KMH", "the speed whose stopping distance is taken"),
+            choice("--sight", "M", "the sight distance (the stopping distance)"),
             EYE,
             OBJECT,
         ],

@@ -24,7 +24,7 @@ const CHECK: &[&str] = &["check", "--speed", "90", "--purpose", "1"];
 const ROAD: &[&str] = &["road"];
 
 /// The commands that read nothing.
-const NUMBERS: [&[&str]; 2] = [&["distance", "80", "stopping"], &["crest", "--drop", "6.00", "--speed", "80"]];
+const NUMBERS: [&[&str]; 2] = [&["distance", "80", "stopping"], &["crest", "--speed", "80", "--drop", "6.00"]];
 
 const NAMES: [&str; 10] = ["list", "report", "heights", "sight", "check", "plot", "road", "text", "distance", "crest"];
 
@@ -298,6 +298,7 @@ fn help_is_true() {
         assert!(words(name).contains("the least of the road's grades, or 0 if none is negative"), "{name}");
     }
     assert!(words("crest").contains("the stopping distance of that speed on the level."));
+    assert!(words("crest").contains("at least 0.6 m for each km/h of the speed."));
     let letters = ["S  stopping sight is lacking", "D  decision sight is lacking", "s  stopping is not judged"];
     for line in letters.into_iter().chain(["R  reduced decision zone", "d  the decision is not judged"]) {
         assert!(help("list").contains(&format!("\n  {line}")), "{line}");

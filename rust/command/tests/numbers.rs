@@ -168,6 +168,7 @@ fn random_crests() {
     let (mut lengths, mut refused) = (0, [0; 19]);
     for _ in 0..600 {
         let crest = Crest {
+            speed: if random.once_in(20) { random.one_of(&[0, 19, 131, 9_999]) } else { random.within(20..=130) },
             drop: if random.once_in(20) { random.one_of(&[0, 3_001, 9_999]) } else { random.of_any_size(3_000) },
             sight: if random.once_in(20) { random.one_of(&[0, 801, 5_000]) } else { random.of_any_size(800) },
             eye: if random.once_in(20) { random.one_of(&[0, 50_001]) } else { random.of_any_size(50_000) },
@@ -175,8 +176,11 @@ fn random_crests() {
         };
         let drop = decimal(crest.drop, 100, 2);
         let [eye, object] = [crest.eye, crest.object].map(|height| decimal(height, 10_000, 4));
-        let sight = crest.sight.to_string();
-        let arguments = ["crest", "--drop", &drop, "--sight", &sight, "--eye", &eye, "--object", &object];
+        let [speed, sight] = [crest.speed, crest.sight].map(|number| number.to_string());
+        let mut options =
+            [["--speed", &speed], ["--drop", &drop], ["--sight", &sight], ["--eye", &eye], ["--object", &object]];
+        options.rotate_left(random.within(0..=4) as usize);
+        let arguments = [&["crest"][..], &options.concat()].concat();
         let expected = crest_length(crest);
         assert_eq!(answer(&arguments), expected, "{arguments:?}");
         match expected {
@@ -184,41 +188,55 @@ fn random_crests() {
             Err(number) => refused[number as usize] += 1,
         }
     }
-    assert!(lengths > 100 && refused[15..].iter().all(|&many| many > 5), "{lengths}, {refused:?}");
+    let all = [&refused[6..=6], &refused[15..]].concat();
+    assert!(lengths > 100 && all.iter().all(|&many| many > 5), "{lengths}, {refused:?}");
 }
 
-/// With a speed the sight distance is its stopping distance on the level; eye and object are those of roads.
+/// Without a sight distance it is the stopping distance of the speed on the level; eye and object are those of roads.
 #[test]
 fn crests_for_a_speed() {
-    for speed in [20, 50, 80, 90, 130] {
+    for speed in [20, 50, 51, 80, 90, 130] {
         for drop in [1, 100, 253, 254, 300, 600, 3_000] {
             let sight = required_distance(speed, 0, 0).expect("the speed is accepted");
-            let expected = crest_length(Crest { drop, sight, eye: 10_800, object: 6_000 });
-            let (drop, speed) = (decimal(drop, 100, 2), speed.to_string());
-            assert_eq!(answer(&["crest", "--drop", &drop, "--speed", &speed]), expected, "{drop} {speed}");
-            assert_eq!(answer(&["crest", "--drop", &drop, "--sight", &sight.to_string()]), expected, "{drop} {sight}");
+            let expected = crest_length(Crest { speed, drop, sight, eye: 10_800, object: 6_000 });
+            let (drop, speed, sight) = (decimal(drop, 100, 2), speed.to_string(), sight.to_string());
+            let arguments = ["crest", "--speed", &speed, "--drop", &drop, "--sight", &sight];
+            assert_eq!(answer(&arguments[..5]), expected, "{drop} {speed}");
+            assert_eq!(answer(&arguments), expected, "{drop} {speed} {sight}");
         }
     }
-    assert_eq!(answer(&["crest", "--drop", "6", "--speed", "131"]), Err(6));
+    for speed in ["19", "131", "4294967376"] {
+        assert_eq!(answer(&["crest", "--speed", speed, "--drop", "6"]), Err(6));
+        assert_eq!(answer(&["crest", "--speed", speed, "--drop", "0", "--sight", "0"]), Err(6));
+    }
 }
 
 /// The rules' cases, and what is missing or too much.
 #[test]
 fn lines_of_a_crest() {
     let folder = folder("crest_lines");
-    expect(&folder, &["crest", "--drop", "6.00", "--sight", "130"], "156\n");
+    expect(&folder, &["crest", "--speed", "80", "--drop", "6.00"], "156\n");
     expect(&folder, &["crest", "--speed=80", "--drop=6"], "156\n");
+    expect(&folder, &["crest", "--drop", "6.00", "--sight", "130", "--speed", "80"], "156\n");
+    expect(&folder, &["crest", "--speed", "80", "--drop", "3.00"], "48\n");
     let refused = "vcp crest: refused 18: no even crest length up to 2,000 m is adequate\n";
-    expect_error(&folder, &["crest", "--drop", "30", "--sight", "800"], 1, refused);
-    expect_wrong(&folder, &["crest", "--sight", "130"], "--drop is missing");
-    expect_wrong(&folder, &["crest", "--drop", "6"], "--sight or --speed is missing");
-    let both = ["crest", "--drop", "6", "--sight", "130", "--speed", "80"];
-    expect_wrong(&folder, &both, "--sight and --speed exclude each other");
-    expect_wrong(
-        &folder,
-        &["crest", "--drop", "6.001", "--sight", "130"],
-        "--drop: \"6.001\" has more than 2 decimals",
-    );
-    expect_wrong(&folder, &["crest", "--drop", "-6", "--sight", "130"], "--drop: \"-6\" is negative");
-    expect_wrong(&folder, &["crest", "6", "--sight", "130"], "\"6\" is one argument too many");
+    expect_error(&folder, &["crest", "--speed", "80", "--drop", "30", "--sight", "800"], 1, refused);
+    let refused = "vcp crest: refused 6: the speed is not 20 to 130 km/h\n";
+    expect_error(&folder, &["crest", "--speed", "131", "--drop", "6"], 1, refused);
+    expect_wrong(&folder, &["crest", "--drop", "6", "--sight", "130"], "--speed is missing");
+    expect_wrong(&folder, &["crest", "--speed", "80", "--sight", "130"], "--drop is missing");
+    for (option, reason) in
+        [("--drop=6.001", "--drop: \"6.001\" has more than 2 decimals"), ("--drop=-6", "--drop: \"-6\" is negative")]
+    {
+        expect_wrong(&folder, &["crest", "--speed", "80", option], reason);
+    }
+    for (option, reason) in [
+        ("--speed=80.5", "--speed: \"80.5\" is not whole"),
+        ("--speed=-80", "--speed: \"-80\" is negative"),
+        ("--speed=", "--speed: the number is missing"),
+    ] {
+        expect_wrong(&folder, &["crest", option, "--drop", "6"], reason);
+    }
+    expect_wrong(&folder, &["crest", "--speed", "80", "--drop", "6", "--sight", "x"], "--sight: \"x\" is no number");
+    expect_wrong(&folder, &["crest", "6", "--speed", "80"], "\"6\" is one argument too many");
 }

@@ -6,7 +6,7 @@
 //! let sight = vcp::required_distance(80, 0, 0)?;
 //! assert_eq!(sight, 130);
 //! // For the driver to see so far over a crest where the grade drops by 6 %, it is at least 156 m long.
-//! assert_eq!(vcp::crest_length(600, sight, 10_800, 6_000)?, 156);
+//! assert_eq!(vcp::crest_length(80, 600, sight, 10_800, 6_000)?, 156);
 //! # Ok::<(), vcp::Refusal>(())
 //! ```
 //!
@@ -42,7 +42,7 @@ pub const MOST_STATIONS: usize = 8_001;
 // A test compares these declarations with crates/van/src/lib.rt.
 extern "C" {
     fn vcp_required_distance(speed: u32, purpose: u32, grade: i32) -> i32;
-    fn vcp_crest_length(drop: u32, sight: u32, eye: u32, object: u32) -> i32;
+    fn vcp_crest_length(speed: u32, drop: u32, sight: u32, eye: u32, object: u32) -> i32;
     fn vcp_mark_road_file(file: *const u8, file_length: usize, marks: *mut u8, marks_length: usize) -> i32;
 }
 
@@ -75,25 +75,30 @@ pub fn required_distance(speed: u32, purpose: u32, grade: i32) -> Result<u32, Re
     refusal::answer(unsafe { vcp_required_distance(speed, purpose, grade) }.into())
 }
 
-/// The least even length in metres of a crest over which an object is seen from a sight distance in metres. The drop in
-/// grade is in hundredths of a percent, and the heights of eye and object above the road are in h-units: for a car's driver
-/// and the object to stop for they are 10,800 and 6,000.
+/// The least even length in metres of a crest over which an object is seen from a sight distance in metres, and which is at
+/// least 0.6 V metres for the speed V in km/h, so that a driver feels no kink. The drop in grade is in hundredths of a
+/// percent, and the heights of eye and object above the road are in h-units: for a car's driver and the object to stop for
+/// they are 10,800 and 6,000.
 ///
 /// # Errors
-/// Refused 15 if the drop is not 1 to 3,000, then 16 if the sight distance is not 1 to 800, then 17 if either height is not
-/// 1 to 50,000, then 18 if no even length up to 2,000 m is enough.
+/// Refused 6 if the speed is not 20 to 130, then 15 if the drop is not 1 to 3,000, then 16 if the sight distance is not 1 to
+/// 800, then 17 if either height is not 1 to 50,000, then 18 if over no even length up to 2,000 m the object is seen: 0.6 V,
+/// which is at most 78 m, never causes that.
 ///
 /// ```
-/// assert_eq!(vcp::crest_length(600, 130, 10_800, 6_000), Ok(156));
-/// // Here a plain break in grade is enough.
-/// assert_eq!(vcp::crest_length(253, 130, 10_800, 6_000), Ok(0));
+/// assert_eq!(vcp::crest_length(80, 600, 130, 10_800, 6_000), Ok(156));
+/// // Here the object is seen over a plain break in grade too, and 0.6 V decides: 48, 30, and 30.6 up to the next even one.
+/// assert_eq!(vcp::crest_length(80, 253, 130, 10_800, 6_000), Ok(48));
+/// assert_eq!(vcp::crest_length(50, 253, 130, 10_800, 6_000), Ok(30));
+/// assert_eq!(vcp::crest_length(51, 253, 130, 10_800, 6_000), Ok(32));
 ///
-/// let refusal = vcp::crest_length(3_000, 800, 10_800, 6_000).unwrap_err();
+/// let refusal = vcp::crest_length(80, 3_000, 800, 10_800, 6_000).unwrap_err();
 /// assert_eq!(refusal.number(), 18);
+/// assert_eq!(vcp::crest_length(131, 0, 800, 10_800, 6_000).unwrap_err().number(), 6);
 /// ```
-pub fn crest_length(drop: u32, sight: u32, eye: u32, object: u32) -> Result<u32, Refusal> {
-    // SAFETY: it takes any four numbers and touches no memory of the caller.
-    refusal::answer(unsafe { vcp_crest_length(drop, sight, eye, object) }.into())
+pub fn crest_length(speed: u32, drop: u32, sight: u32, eye: u32, object: u32) -> Result<u32, Refusal> {
+    // SAFETY: it takes any five numbers and touches no memory of the caller.
+    refusal::answer(unsafe { vcp_crest_length(speed, drop, sight, eye, object) }.into())
 }
 
 /// Writes the mark of each station of a road file's road, from station 0 on, and answers how many stations there are. Places

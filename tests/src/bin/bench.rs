@@ -136,13 +136,14 @@ fn crest_lengths() -> Times {
     let mut random = Random::new(1);
     let crests: Vec<Crest> = (0..1_000)
         .map(|_| Crest {
+            speed: random.within(20..=130),
             drop: random.within(1..=3_000),
             sight: random.of_any_size(800),
             eye: random.within(1..=50_000),
             object: random.within(1..=50_000),
         })
         .collect();
-    let van_length = |crest: Crest| vcp::crest_length(crest.drop, crest.sight, crest.eye, crest.object);
+    let van_length = |crest: Crest| vcp::crest_length(crest.speed, crest.drop, crest.sight, crest.eye, crest.object);
     for &crest in &crests {
         assert_eq!(bare(van_length(crest)), quick::crest_length(crest), "{crest:?}");
     }

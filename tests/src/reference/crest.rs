@@ -2,9 +2,11 @@
 
 use super::Answer;
 
-/// A drop in grade in hundredths of a percent, a sight distance in metres, and heights of eye and object in h-units.
+/// A speed in km/h, a drop in grade in hundredths of a percent, a sight distance in metres, and heights of eye and object in
+/// h-units.
 #[derive(Clone, Copy, Debug)]
 pub struct Crest {
+    pub speed: u32,
     pub drop: u32,
     pub sight: u32,
     pub eye: u32,
@@ -29,8 +31,16 @@ pub fn adequate(crest: Crest, length: u32) -> bool {
     }
 }
 
-/// The least even adequate length from 0 to 2,000.
+/// The length is at least 0.6 V metres, here in tenths of a metre.
+pub fn at_least_minimum(speed: u32, length: u32) -> bool {
+    10 * u64::from(length) >= 6 * u64::from(speed)
+}
+
+/// The least even length from 0 to 2,000 that is adequate and at least 0.6 V; refused 18 where no even length is adequate.
 pub fn crest_length(crest: Crest) -> Answer {
+    if !(20..=130).contains(&crest.speed) {
+        return Err(6);
+    }
     if !(1..=3_000).contains(&crest.drop) {
         return Err(15);
     }
@@ -40,5 +50,10 @@ pub fn crest_length(crest: Crest) -> Answer {
     if !(1..=50_000).contains(&crest.eye) || !(1..=50_000).contains(&crest.object) {
         return Err(17);
     }
-    (0..=2_000).step_by(2).find(|&length| adequate(crest, length)).ok_or(18)
+    let mut even = (0..=2_000).step_by(2);
+    if !even.clone().any(|length| adequate(crest, length)) {
+        return Err(18);
+    }
+    let least = even.find(|&length| at_least_minimum(crest.speed, length) && adequate(crest, length));
+    Ok(least.expect("where a length is adequate, one of those from 0.6 V on is"))
 }
