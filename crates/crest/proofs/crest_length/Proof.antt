@@ -25,8 +25,11 @@ outside-requires-2 c κs = search needs
 returns-2 : tie.Need-returns-2
 unfolding crestLength
 returns-2 c =
-    let v = c .before .before in
-    simp (sym (v .before .outside .ensures) ∙ v .if1 .left, sym (c .before .outside2 .ensures) ∙ c .if2 .taken)
+    let speed = c .before .before in
+    simp (
+      sym (speed .before .outside .ensures) ∙ speed .if1 .left,
+      sym (c .before .outside2 .ensures) ∙ c .if2 .taken,
+    )
 
 outside-requires-3 : tie.Need-outside-requires-3
 outside-requires-3 c κs = search needs
@@ -34,11 +37,11 @@ outside-requires-3 c κs = search needs
 returns-3 : tie.Need-returns-3
 unfolding crestLength
 returns-3 c =
-    let d = c .before .before in
-    let v = d .before .before in
+    let drop = c .before .before in
+    let speed = drop .before .before in
     simp (
-      sym (v .before .outside .ensures) ∙ v .if1 .left,
-      sym (d .before .outside2 .ensures) ∙ d .if2 .left,
+      sym (speed .before .outside .ensures) ∙ speed .if1 .left,
+      sym (drop .before .outside2 .ensures) ∙ drop .if2 .left,
       sym (c .before .outside3 .ensures) ∙ c .if3 .taken,
     )
 
@@ -48,31 +51,31 @@ eye-or-object-outside-requires c κs = search needs
 returns-4 : tie.Need-returns-4
 unfolding crestLength
 returns-4 c =
-    let s = c .before .before in
-    let d = s .before .before in
-    let v = d .before .before in
+    let sight = c .before .before in
+    let drop = sight .before .before in
+    let speed = drop .before .before in
     simp (
-      sym (v .before .outside .ensures) ∙ v .if1 .left,
-      sym (d .before .outside2 .ensures) ∙ d .if2 .left,
-      sym (s .before .outside3 .ensures) ∙ s .if3 .left,
+      sym (speed .before .outside .ensures) ∙ speed .if1 .left,
+      sym (drop .before .outside2 .ensures) ∙ drop .if2 .left,
+      sym (sight .before .outside3 .ensures) ∙ sight .if3 .left,
       sym (c .before .eye-or-object-outside .ensures) ∙ c .if4 .taken,
     )
 
 -- past the four tests all numbers are in their ranges
 in-range :
     (c : tie.Else4) →
-    let d = c .before .before .before .before in
-    let x = d .before .before .before .before .args in InRange (x .speed) (x .drop) (x .sight) (x .eye) (x .object)
+    let speed = c .before .before .before .before .before .before in
+    let x = speed .before .before .args in InRange (x .speed) (x .drop) (x .sight) (x .eye) (x .object)
 in-range c =
-    let s = c .before .before in
-    let d = s .before .before in
-    let v = d .before .before in
-    let x = v .before .before .args in
+    let sight = c .before .before in
+    let drop = sight .before .before in
+    let speed = drop .before .before in
+    let x = speed .before .before .args in
     let h = heights-in (x .eye) (x .object) (sym (c .before .eye-or-object-outside .ensures) ∙ c .if4 .left) in
     record {
-      speed = not-outside-in leastSpeed greatestSpeed _ (sym (v .before .outside .ensures) ∙ v .if1 .left);
-      drop = not-outside-in 1 greatestDrop _ (sym (d .before .outside2 .ensures) ∙ d .if2 .left);
-      sight = not-outside-in 1 greatestSightDistance _ (sym (s .before .outside3 .ensures) ∙ s .if3 .left);
+      speed = not-outside-in leastSpeed greatestSpeed _ (sym (speed .before .outside .ensures) ∙ speed .if1 .left);
+      drop = not-outside-in 1 greatestDrop _ (sym (drop .before .outside2 .ensures) ∙ drop .if2 .left);
+      sight = not-outside-in 1 greatestSightDistance _ (sym (sight .before .outside3 .ensures) ∙ sight .if3 .left);
       eye = h .0;
       object = h .1;
     }
