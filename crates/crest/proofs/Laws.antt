@@ -100,6 +100,7 @@ adequate-mono a s u w l m h t = adequate-mono-cases a s u w l m (leb s l) (leb s
 
 -- ---- the minimum
 
+-- a longer crest reaches it where a shorter one does
 pub reaches-minimum-mono : (v l m : ℕ) → l ≤ m → T (reachesMinimum v l) → T (reachesMinimum v m)
 unfolding reachesMinimum
 reaches-minimum-mono v l m h t = le→leb (3 * v) (5 * m) (omega (arith, leb→le (3 * v) (5 * l) t))
