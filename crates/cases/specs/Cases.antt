@@ -10,7 +10,7 @@ use Rattle.terms.specs.declared.Answer.{Answer}
 use Rattle.terms.specs.declared.Answer.the-variants.{Number}
 use Rattle.terms.specs.declared.Verdict.the-variants.{Accepted}
 use Rattle.distance.specs.Distance.{purposeRow, metreParts, levelParts, requiredDistance}
-use Rattle.crest.specs.Crest.{adequate, leastEven, crestLength}
+use Rattle.crest.specs.Crest.{crestAdequate, leastEven, crestLength}
 use Rattle.road.specs.declared.Curve.{Curve}
 use Rattle.road.specs.declared.Road.{Road}
 use Rattle.road.specs.Road.{roadVerdict}
@@ -40,7 +40,7 @@ heightAt l x = getD (ownHeights (crestRoad l)) x (negℤ (pos 1))
 -- the least even adequate length of a crest with this drop and sight distance, whatever the speed is: e = 10,800 and o = 6,000
 unfoldable pub leastAdequate : ℕ → ℕ → Answer
 leastAdequate a s =
-    leastEven (adequate a s (2 * (eyeHeight + objectHeight)) (16 * eyeHeight * objectHeight)) 0 (greatestCrest / 2 + 1)
+    leastEven (crestAdequate a s eyeHeight objectHeight) 0 (greatestCrest / 2 + 1)
 
 pub record StarredCases : Type 0 where
   -- Distances a driver needs: the 129.01 m before rounding in hundredths of a metre, rounded down

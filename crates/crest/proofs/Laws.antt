@@ -14,10 +14,10 @@ use lib.Signed.{_≤ℤ_}
 use Rattle.terms.specs.Answers.{outside, eyeOrObjectOutside, refuse}
 use Rattle.terms.specs.Limits.{leastSpeed, greatestSpeed, greatestDrop, greatestSightDistance, greatestCrest}
 use Rattle.terms.specs.Refusals.{speedRefused, dropRefused, sightDistanceRefused, heightRefused, noLengthRefused}
-use Rattle.terms.proofs.Laws.{AtMost, refuse-at-most, not-outside, heights-not-outside}
+use Rattle.terms.proofs.Laws.{AtMost, refuse-at-most, not-outside, not-outside-in, heights-not-outside, heights-in}
 use Rattle.terms.specs.declared.Answer.{Answer}
 use Rattle.terms.specs.declared.Answer.the-variants.{Number, Refused}
-use Rattle.crest.specs.Crest.{withinRoot, adequate, reachesMinimum, longEnough, leastEven, crestLength}
+use Rattle.crest.specs.Crest.{withinRoot, adequate, crestAdequate, reachesMinimum, longEnough, leastEven, crestLength}
 use Rattle.crest.specs.NoneAdequate.{InRange, NoneAdequate}
 
 -- ---- the root
@@ -101,34 +101,36 @@ adequate-mono a s u w l m h t = adequate-mono-cases a s u w l m (leb s l) (leb s
 -- ---- the minimum
 
 -- a longer crest reaches it where a shorter one does
-pub reaches-minimum-mono : (v l m : ℕ) → l ≤ m → T (reachesMinimum v l) → T (reachesMinimum v m)
+reaches-minimum-mono : (v l m : ℕ) → l ≤ m → T (reachesMinimum v l) → T (reachesMinimum v m)
 unfolding reachesMinimum
 reaches-minimum-mono v l m h t = le→leb (3 * v) (5 * m) (omega (arith, leb→le (3 * v) (5 * l) t))
 
 -- the minimum for any speed that is not refused is within 2,000 m
-pub reaches-minimum-greatest : (v : ℕ) → v ≤ greatestSpeed → T (reachesMinimum v greatestCrest)
+reaches-minimum-greatest : (v : ℕ) → v ≤ greatestSpeed → T (reachesMinimum v greatestCrest)
 unfolding reachesMinimum
 reaches-minimum-greatest v h = le→leb (3 * v) (5 * greatestCrest) (omega arith)
 
 -- long enough is both
-pub long-enough-is : (v a s u w l : ℕ) → T (longEnough v a s u w l) ↔ (T (reachesMinimum v l) × T (adequate a s u w l))
+pub long-enough-is : (v : ℕ) (test : ℕ → Bool) (l : ℕ) → T (longEnough v test l) ↔ (T (reachesMinimum v l) × T (test l))
 unfolding longEnough
-long-enough-is v a s u w l =
-    let p = reachesMinimum v l in let q = adequate a s u w l in
-    (and-yes p q, λ b. yes-and p q (b .0) (b .1))
+long-enough-is v test l =
+    let p = reachesMinimum v l in
+    (and-yes p (test l), λ b. yes-and p (test l) (b .0) (b .1))
 
 -- a longer crest is long enough where a shorter one is
-pub long-enough-mono : (v a s u w l m : ℕ) → l ≤ m → T (longEnough v a s u w l) → T (longEnough v a s u w m)
+pub long-enough-mono :
+    (v a s u w l m : ℕ) → l ≤ m → T (longEnough v (adequate a s u w) l) → T (longEnough v (adequate a s u w) m)
 long-enough-mono v a s u w l m h t =
-    let b = long-enough-is v a s u w l .0 t in
-    long-enough-is v a s u w m .1 (reaches-minimum-mono v l m h (b .0), adequate-mono a s u w l m h (b .1))
+    let test = adequate a s u w in
+    let b = long-enough-is v test l .0 t in
+    long-enough-is v test m .1 (reaches-minimum-mono v l m h (b .0), adequate-mono a s u w l m h (b .1))
 
--- where a length up to 2,000 m is adequate, 2,000 m are long enough: the minimum hides no adequate length
-pub long-enough-greatest :
+-- where a length up to 2,000 m is adequate, 2,000 m are long enough: so the minimum is never the cause of 18
+long-enough-greatest :
     (v a s u w l : ℕ) → v ≤ greatestSpeed → l ≤ greatestCrest →
-    T (adequate a s u w l) → T (longEnough v a s u w greatestCrest)
+    T (adequate a s u w l) → T (longEnough v (adequate a s u w) greatestCrest)
 long-enough-greatest v a s u w l h k t =
-    long-enough-is v a s u w greatestCrest .1 (reaches-minimum-greatest v h, adequate-mono a s u w l greatestCrest k t)
+    long-enough-is v (adequate a s u w) greatestCrest .1 (reaches-minimum-greatest v h, adequate-mono a s u w l greatestCrest k t)
 
 -- ---- the least even length
 
@@ -190,28 +192,26 @@ module _ (test : ℕ → Bool) where
   pub least-even-only : (l n : ℕ) (x : Answer) → FirstEven test l n x → x ≡ leastEven test l n
   least-even-only l n x f = first-even-unique l n x (leastEven test l n) f (least-even-is l n)
 
--- ---- 18
-
--- 18 is said exactly where no even length up to 2,000 is adequate, whatever Q = u + √w
-pub none-adequate :
+-- of the lengths that are long enough none is found exactly where no even length up to 2,000 is adequate, whatever Q = u + √w
+least-even-none :
     (v a s u w : ℕ) → v ≤ greatestSpeed →
-    (leastEven (longEnough v a s u w) 0 (greatestCrest / 2 + 1) ≡ Refused noLengthRefused) ↔
+    (leastEven (longEnough v (adequate a s u w)) 0 (greatestCrest / 2 + 1) ≡ Refused noLengthRefused) ↔
     ((l : ℕ) → l % 2 ≡ 0 → l ≤ greatestCrest → T (adequate a s u w l) → ⊥)
-none-adequate v a s u w h =
-    let test = longEnough v a s u w in
+least-even-none v a s u w h =
+    let test = longEnough v (adequate a s u w) in
     let n = greatestCrest / 2 + 1 in (
       (λ p l even k t.
           subst (FirstEven test 0 n) p (least-even-is test 0 n) .1 (greatestCrest / 2) (omega arith)
           (long-enough-greatest v a s u w l h k t)),
       λ f. sym (least-even-only test 0 n (Refused noLengthRefused)
-          (refl, λ j l t. f (0 + 2 * j) (omega arith) (omega arith) (long-enough-is v a s u w (0 + 2 * j) .0 t .1))),
+          (refl, λ j l t. f (0 + 2 * j) (omega arith) (omega arith) (long-enough-is v (adequate a s u w) (0 + 2 * j) .0 t .1))),
     )
 
 -- ---- the crest's length
 
--- the test of a crest's lengths, with its own Q
+-- the test of a crest's lengths
 abbrev pub crestTest : ℕ → ℕ → ℕ → ℕ → ℕ → ℕ → Bool
-crestTest v a s e o = longEnough v a s (2 * (e + o)) (16 * e * o)
+crestTest v a s e o = longEnough v (crestAdequate a s e o)
 
 -- in the ranges the answer is that of the search
 pub crest-length-in-range :
@@ -226,17 +226,38 @@ crest-length-in-range v a s e o h =
       heights-not-outside e o (h .eye) (h .object),
     )
 
+-- an answer that is not this refusal is the rest's
+refuse-past : (c : Bool) (k : ℕ) (x y : Answer) → (Refused k ≡ y → ⊥) → refuse c k x ≡ y → (c ≡ false) × (x ≡ y)
+refuse-past true k x y d p = absurd (d p)
+refuse-past false k x y d p = (refl, p)
+
+-- an answer that is no refusal before 18 is that of the search, of numbers in their ranges
+crest-length-past :
+    (v a s e o : ℕ) (y : Answer) → ((k : ℕ) → k < noLengthRefused → Refused k ≡ y → ⊥) → crestLength v a s e o ≡ y →
+    InRange v a s e o × (leastEven (crestTest v a s e o) 0 (greatestCrest / 2 + 1) ≡ y)
+unfolding crestLength
+crest-length-past v a s e o y d p =
+    let speed = refuse-past (outside leastSpeed greatestSpeed v) speedRefused _ y (d _ (omega arith)) p in
+    let drop = refuse-past (outside 1 greatestDrop a) dropRefused _ y (d _ (omega arith)) (speed .1) in
+    let sight = refuse-past (outside 1 greatestSightDistance s) sightDistanceRefused _ y (d _ (omega arith)) (drop .1) in
+    let heights = refuse-past (eyeOrObjectOutside e o) heightRefused _ y (d _ (omega arith)) (sight .1) in
+    let h = heights-in e o (heights .0) in (
+      record {
+        speed = not-outside-in leastSpeed greatestSpeed v (speed .0);
+        drop = not-outside-in 1 greatestDrop a (drop .0);
+        sight = not-outside-in 1 greatestSightDistance s (sight .0);
+        eye = h .0;
+        object = h .1;
+      },
+      heights .1,
+    )
+
 -- r is even, at most 2,000 and passes the test, and no lesser even length does
 pub record Least (test : ℕ → Bool) (r : ℕ) : Type 0 where
   pub even : r % 2 ≡ 0
   pub within : r ≤ greatestCrest
   pub passes : T (test r)
   pub least : (m : ℕ) → m % 2 ≡ 0 → m < r → T (test m) → ⊥
-
--- a number is no refusal, so it is the rest's answer
-refuse-number : (c : Bool) (k r : ℕ) (x : Answer) → refuse c k x ≡ Number r → x ≡ Number r
-refuse-number true k r x p = absurd (let z : _≡_ {A = ℕ} 0 1 = cc in omega arith)
-refuse-number false k r x p = p
 
 first-least : (test : ℕ → Bool) (r : ℕ) → First test 0 (greatestCrest / 2 + 1) r → Least test r
 first-least test r f =
@@ -247,19 +268,17 @@ first-least test r f =
       least = λ m q h t. f .before (m / 2) (omega arith) (subst (λ (x : ℕ). T (test x)) (omega arith) t);
     }
 
+-- a number is no refusal
+refused-not-number : (k r : ℕ) → Refused k ≡ Number r → ⊥
+refused-not-number k r p = let z : _≡_ {A = ℕ} 0 1 = cc in omega arith
+
 -- a length that is answered is the least even one up to 2,000 that is long enough
 pub crest-length-number : (v a s e o r : ℕ) → crestLength v a s e o ≡ Number r → Least (crestTest v a s e o) r
-unfolding crestLength
 crest-length-number v a s e o r p =
     let test = crestTest v a s e o in
     let n = greatestCrest / 2 + 1 in
     first-least test r
-    (subst (FirstEven test 0 n)
-    (refuse-number (eyeOrObjectOutside e o) heightRefused r _
-    (refuse-number (outside 1 greatestSightDistance s) sightDistanceRefused r _
-    (refuse-number (outside 1 greatestDrop a) dropRefused r _
-    (refuse-number (outside leastSpeed greatestSpeed v) speedRefused r _ p))))
-    (least-even-is test 0 n))
+    (subst (FirstEven test 0 n) (crest-length-past v a s e o (Number r) (λ k h. refused-not-number k r) p .1) (least-even-is test 0 n))
 
 -- so it is at most 2,000
 first-even-at-most :
@@ -278,7 +297,12 @@ crest-length-at-most v a s e o =
     refuse-at-most (eyeOrObjectOutside e o) _ _ _ (omega arith) (λ t.
     first-even-at-most test (leastEven test 0 n) (least-even-is test 0 n)))))
 
--- 18 is said exactly where no even length up to 2,000 is adequate
+-- 18 comes from the search, where no even length up to 2,000 is adequate
 pub crest-length-none : NoneAdequate
-crest-length-none v a s e o h =
-    rw (crest-length-in-range v a s e o h) (none-adequate v a s (2 * (e + o)) (16 * e * o) (h .speed .1))
+crest-length-none v a s e o =
+    let none = least-even-none v a s (2 * (e + o)) (16 * e * o) in (
+      (λ p.
+          let b = crest-length-past v a s e o (Refused noLengthRefused) (λ k h q. let z : k ≡ noLengthRefused = cc in omega arith) p in
+          (b .0, none (b .0 .speed .1) .0 (b .1))),
+      λ b. crest-length-in-range v a s e o (b .0) ∙ none (b .0 .speed .1) .1 (b .1),
+    )

@@ -26,13 +26,17 @@ adequate a s u w l =
     (withinRoot (a * (s * s)) (l * u) (l * l * w))
     (withinRoot (a * (2 * s - l)) u w)
 
+-- the length L of a crest is adequate for an eye height e and an object height o: Q = 2 (e + o) + √(16 e o)
+abbrev pub crestAdequate : ℕ → ℕ → ℕ → ℕ → ℕ → Bool
+crestAdequate a s e o = adequate a s (2 * (e + o)) (16 * e * o)
+
 -- the length L reaches the Green Book's minimum for the speed V in km/h, 0.6 V metres: 3 V ≤ 5 L
 unfoldable pub reachesMinimum : ℕ → ℕ → Bool
 reachesMinimum v l = leb (3 * v) (5 * l)
 
--- the length L is long enough: it reaches the minimum for the speed V, and it is adequate
-unfoldable pub longEnough : ℕ → ℕ → ℕ → ℕ → ℕ → ℕ → Bool
-longEnough v a s u w l = reachesMinimum v l && adequate a s u w l
+-- the length L is long enough: it reaches the minimum for the speed V, and it passes the test of adequacy
+unfoldable pub longEnough : ℕ → (ℕ → Bool) → ℕ → Bool
+longEnough v test l = reachesMinimum v l && test l
 
 -- the first of n lengths l, l + 2, l + 4, … that passes the test; refused 18 where none does
 unfoldable pub leastEven : (ℕ → Bool) → ℕ → ℕ → Answer
@@ -47,4 +51,4 @@ crestLength v a s e o =
     (refuse (outside 1 greatestDrop a) dropRefused
     (refuse (outside 1 greatestSightDistance s) sightDistanceRefused
     (refuse (eyeOrObjectOutside e o) heightRefused
-    (leastEven (longEnough v a s (2 * (e + o)) (16 * e * o)) 0 (greatestCrest / 2 + 1)))))
+    (leastEven (longEnough v (crestAdequate a s e o)) 0 (greatestCrest / 2 + 1)))))

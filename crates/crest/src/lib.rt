@@ -34,7 +34,7 @@ fn adequate(a: u64, s: u64, u: u64, w: u64, l: u64) -> bool
 // Whether the length l is long enough: it reaches the minimum for the speed v, and it is adequate.
 fn long_enough(v: u64, a: u64, s: u64, u: u64, w: u64, l: u64) -> bool
     requires { ⌜ (v ≤ greatestSpeed) × Sized a s u w × (l ≤ greatestCrest) ⌝ }
-    ensures { λ r. ⌜ r ≡ longEnough v a s u w l ⌝ }
+    ensures { λ r. ⌜ r ≡ longEnough v (adequate a s u w) l ⌝ }
 {
     if 5 * l < 3 * v {
         return false;
@@ -46,7 +46,7 @@ fn long_enough(v: u64, a: u64, s: u64, u: u64, w: u64, l: u64) -> bool
 // tested.
 fn least_even(v: u64, a: u64, s: u64, u: u64, w: u64) -> Answer
     requires { ⌜ (v ≤ greatestSpeed) × Sized a s u w ⌝ }
-    ensures { λ r. ⌜ r ≡ leastEven (longEnough v a s u w) 0 (greatestCrest / 2 + 1) ⌝ }
+    ensures { λ r. ⌜ r ≡ leastEven (longEnough v (adequate a s u w)) 0 (greatestCrest / 2 + 1) ⌝ }
 {
     let last = (terms::GREATEST_CREST / 2) as u64;
     let mut low = 0;
@@ -67,8 +67,8 @@ fn least_even(v: u64, a: u64, s: u64, u: u64, w: u64) -> Answer
     Answer::Number(metres)
 }
 
-// The length that a crest with this drop in grade needs, so that an eye and an object of these heights see each other over
-// the sight distance, and that it reaches the minimum for the speed.
+// The least even length of a crest with this drop in grade over which an eye and an object of these heights see each other from
+// the sight distance, and which reaches the minimum for the speed.
 pub fn crest_length(speed: u32, drop: u32, sight: u32, eye: u32, object: u32) -> Answer
     ensures { λ r. ⌜ r ≡ crestLength speed drop sight eye object ⌝ }
 {

@@ -11,7 +11,7 @@ use lib.Dec.{T}
 use Rattle.terms.specs.Limits.{greatestCrest}
 use Rattle.terms.specs.Refusals.{noLengthRefused}
 use Rattle.terms.specs.declared.Answer.the-variants.{Number, Refused}
-use Rattle.crest.specs.Crest.{longEnough, leastEven}
+use Rattle.crest.specs.Crest.{adequate, longEnough, leastEven}
 use Rattle.crest.proofs.Laws.{long-enough-mono, least-even-only}
 use Rattle.crest.proofs.least_even.Statement.{statement}
 use Rattle.crest.proofs.least_even.Tie as tie
@@ -22,45 +22,39 @@ record Searched (test : ℕ → Bool) (low high : ℕ) : Type 0 where
   below : (j : ℕ) → j < low → T (test (2 * j)) → ⊥
   found : high ≤ greatestCrest / 2 → T (test (2 * high))
 
-module _ (v a s u w low high : ℕ) (i : Searched (longEnough v a s u w) low high) where
-  lowered :
-      (half : ℕ) → low ≤ half → half < high → longEnough v a s u w (2 * half) ≡ true →
-      Searched (longEnough v a s u w) low half
+module _ (test : ℕ → Bool) (low high : ℕ) (i : Searched test low high) where
+  lowered : (half : ℕ) → low ≤ half → half < high → test (2 * half) ≡ true → Searched test low half
   lowered half h k t = record { ordered = h; within = omega arith; below = i .below; found = λ _. rw t tt }
 
   raised :
-      (half : ℕ) → half < high → longEnough v a s u w (2 * half) ≡ false →
-      Searched (longEnough v a s u w) (half + 1) high
-  raised half h t =
+      ((l m : ℕ) → l ≤ m → T (test l) → T (test m)) →
+      (half : ℕ) → half < high → test (2 * half) ≡ false → Searched test (half + 1) high
+  raised mono half h t =
       record {
         ordered = omega arith;
         within = i .within;
         found = i .found;
-        below = λ j k p. rw t at (long-enough-mono v a s u w (2 * j) (2 * half) (omega arith) p);
+        below = λ j k p. rw t at (mono (2 * j) (2 * half) (omega arith) p);
       }
 
-  past-all :
-      high ≤ low → greatestCrest / 2 < high →
-      Refused noLengthRefused ≡ leastEven (longEnough v a s u w) 0 (greatestCrest / 2 + 1)
+  past-all : high ≤ low → greatestCrest / 2 < high → Refused noLengthRefused ≡ leastEven test 0 (greatestCrest / 2 + 1)
   past-all h k =
-      least-even-only (longEnough v a s u w) 0 (greatestCrest / 2 + 1) (Refused noLengthRefused)
-      (refl, λ j l t. i .below j (omega arith) (subst (λ (x : ℕ). T (longEnough v a s u w x)) (omega arith) t))
+      least-even-only test 0 (greatestCrest / 2 + 1) (Refused noLengthRefused)
+      (refl, λ j l t. i .below j (omega arith) (subst (λ (x : ℕ). T (test x)) (omega arith) t))
 
-  met :
-      high ≤ low → high ≤ greatestCrest / 2 →
-      Number (2 * high) ≡ leastEven (longEnough v a s u w) 0 (greatestCrest / 2 + 1)
+  met : high ≤ low → high ≤ greatestCrest / 2 → Number (2 * high) ≡ leastEven test 0 (greatestCrest / 2 + 1)
   met h k =
-      least-even-only (longEnough v a s u w) 0 (greatestCrest / 2 + 1) (Number (2 * high))
+      least-even-only test 0 (greatestCrest / 2 + 1) (Number (2 * high))
       (record {
         index = high;
         within = omega arith;
         place = omega arith;
         passes = i .found k;
-        before = λ j l t. i .below j (omega arith) (subst (λ (x : ℕ). T (longEnough v a s u w x)) (omega arith) t);
+        before = λ j l t. i .below j (omega arith) (subst (λ (x : ℕ). T (test x)) (omega arith) t);
       })
 
 abbrev Inv-loop : tie.InvT-loop
-Inv-loop v a s u w last low₀ high₀ low high = Searched (longEnough v a s u w) low high
+Inv-loop v a s u w last low₀ high₀ low high = Searched (longEnough v (adequate a s u w)) low high
 
 abbrev μ-loop : tie.MeasureT-loop
 μ-loop v a s u w last low₀ high₀ low high = high - low
@@ -91,7 +85,7 @@ loop-less c = search needs
 
 loop-again : tie.Need-loop-again Inv-loop μ-loop
 loop-again c =
-    lowered _ _ _ _ _ _ _ (c .before .before .before .loop .inv) _ (omega arith) (omega arith)
+    lowered _ _ _ (c .before .before .before .loop .inv) _ (omega arith) (omega arith)
     (sym (c .before .long-enough .ensures) ∙ c .if1 .taken)
 
 add-low : tie.Need-add-low Inv-loop μ-loop
@@ -102,11 +96,11 @@ loop-less-2 c = search needs
 
 loop-again-2 : tie.Need-loop-again-2 Inv-loop μ-loop
 loop-again-2 c =
-    raised _ _ _ _ _ _ _ (c .before .before .before .loop .inv) _ (omega arith)
+    raised _ _ _ (c .before .before .before .loop .inv) (long-enough-mono _ _ _ _ _) _ (omega arith)
     (sym (c .before .long-enough .ensures) ∙ c .if1 .left)
 
 returns : tie.Need-returns Inv-loop μ-loop
-returns c = past-all _ _ _ _ _ _ _ (c .before .before .loop .inv) (omega arith) (omega arith)
+returns c = past-all _ _ _ (c .before .before .loop .inv) (omega arith) (omega arith)
 
 mul-length : tie.Need-mul-length Inv-loop μ-loop
 mul-length c = search needs
@@ -115,7 +109,7 @@ cast-metres : tie.Need-cast-metres Inv-loop μ-loop
 cast-metres c = search needs
 
 returns-2 : tie.Need-returns-2 Inv-loop μ-loop
-returns-2 c = met _ _ _ _ _ _ _ (c .before .before .loop .inv) (omega arith) (omega arith)
+returns-2 c = met _ _ _ (c .before .before .loop .inv) (omega arith) (omega arith)
 
 pub least-even-spec : {M : Type 1} → statement M
 least-even-spec =
