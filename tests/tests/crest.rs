@@ -4,7 +4,7 @@ use std::ops::RangeInclusive;
 
 use sight_tests::bare;
 use sight_tests::random::Random;
-use sight_tests::reference::crest::{adequate, crest_length, Crest};
+use sight_tests::reference::crest::{crest_length, least_adequate, Crest};
 use sight_tests::reference::marks::{EYE, OBJECT};
 use sight_tests::reference::Answer;
 use sight_tests::tally::Tally;
@@ -55,11 +55,6 @@ fn cases_of_the_rules() {
     for (drop, least) in [(600, 156), (300, 42), (253, 0), (254, 2)] {
         assert_eq!(least_adequate(crest(drop, 130, EYE, OBJECT)), Some(least), "drop {drop}");
     }
-}
-
-/// The least even length that is adequate, whatever the speed is.
-fn least_adequate(crest: Crest) -> Option<u32> {
-    (0..=2_000).step_by(2).find(|&length| adequate(crest, length))
 }
 
 /// 0.6 V worked by hand, with the next even metre where it is none itself: 12.6 and 13.8 up to 14, 14.4 up to 16, 29.4 up to
@@ -211,7 +206,7 @@ fn just_adequate_where_the_sight_is_beyond_the_curve() {
 #[test]
 fn odd_lengths_are_passed_over() {
     // Q = 80,000 = 128 × 625, so the least adequate length is 2S − 625.
-    for sight in 319..625 {
+    for sight in 318..625 {
         expect(crest(128, sight, 10_000, 10_000), Ok(2 * sight - 624));
     }
     // Q = 80,000 and S = 200, so the least adequate length is a / 2.
@@ -236,7 +231,10 @@ fn lengths_of_the_aashto_equations() {
             let (agrees, kind) = match answer {
                 Err(refusal) => (refusal == 18 && tenths >= 19_999, &mut refused),
                 Ok(length) if length == minimum(speed) => (tenths <= shortest_tenths + 1, &mut shortest),
-                Ok(length) => ((-1..=21).contains(&(10 * i64::from(length) - tenths)), &mut lengths),
+                Ok(length) => {
+                    let over = 10 * i64::from(length) - tenths;
+                    (length > minimum(speed) && (-1..=21).contains(&over), &mut lengths)
+                }
             };
             assert!(
                 agrees,
@@ -256,8 +254,8 @@ fn far_beyond_the_ranges() {
         0, 1, 2, 799, 800, 801, 2999, 3000, 3001, 49999, 50000, 50001, 65535, 65536, 66236, 2147483647, 2147483648,
         4294967295,
     ];
-    // 256 + 20 and 65,536 + 20 would be 20 km/h in fewer bits.
-    let speeds = [20, 130, 0, 19, 131, 276, 65_556, 2_147_483_648, 4_294_967_295];
+    // 2^8, 2^16, 2^24 and 2^31 with 20 behind would be 20 km/h in fewer bits.
+    let speeds = [20, 130, 0, 19, 131, 276, 65_556, 16_777_236, 2_147_483_668, 4_294_967_295];
     let mut tally = Tally::default();
     for speed in speeds {
         for drop in values {

@@ -77,7 +77,7 @@ fn linked(document: &str, link: &str) -> String {
 /// Each law that these documents name is a public term of the file that its row names.
 #[test]
 fn laws_are_those_of_the_files() {
-    for (path, least) in [("README.md", 4), ("docs/ARCHITECTURE.md", 15)] {
+    for (path, least) in [("README.md", 5), ("docs/ARCHITECTURE.md", 15)] {
         let document = prose(&text(path));
         let mut found = 0;
         for line in document.lines() {
@@ -123,7 +123,7 @@ fn theorems_are_held_in_place() {
             found += 1;
         }
     }
-    assert!(found >= 4, "{found} theorems");
+    assert!(found >= 5, "{found} theorems");
 }
 
 /// Each `crate::function` that these documents name is a public one of that crate.

@@ -162,24 +162,32 @@ fn decimal(number: u32, unit: u32, digits: usize) -> String {
     format!("{}.{:0digits$}", number / unit, number % unit)
 }
 
+/// With a sight distance, and without one, for which the stopping distance of the speed is taken: where the speed is refused
+/// there is none, and none is needed.
 #[test]
 fn random_crests() {
     let mut random = Random::new(88);
     let (mut lengths, mut refused) = (0, [0; 19]);
-    for _ in 0..600 {
-        let crest = Crest {
+    for round in 0..600 {
+        let mut crest = Crest {
             speed: if random.once_in(20) { random.one_of(&[0, 19, 131, 9_999]) } else { random.within(20..=130) },
             drop: if random.once_in(20) { random.one_of(&[0, 3_001, 9_999]) } else { random.of_any_size(3_000) },
             sight: if random.once_in(20) { random.one_of(&[0, 801, 5_000]) } else { random.of_any_size(800) },
             eye: if random.once_in(20) { random.one_of(&[0, 50_001]) } else { random.of_any_size(50_000) },
             object: if random.once_in(20) { random.one_of(&[0, 50_001]) } else { random.of_any_size(50_000) },
         };
+        let stopping = round % 4 == 0;
+        if stopping {
+            crest.sight = required_distance(crest.speed, 0, 0).unwrap_or(1);
+        }
         let drop = decimal(crest.drop, 100, 2);
         let [eye, object] = [crest.eye, crest.object].map(|height| decimal(height, 10_000, 4));
         let [speed, sight] = [crest.speed, crest.sight].map(|number| number.to_string());
-        let mut options =
-            [["--speed", &speed], ["--drop", &drop], ["--sight", &sight], ["--eye", &eye], ["--object", &object]];
-        options.rotate_left(random.within(0..=4) as usize);
+        let mut options = vec![["--speed", &speed], ["--drop", &drop], ["--eye", &eye], ["--object", &object]];
+        if !stopping {
+            options.push(["--sight", &sight]);
+        }
+        options.rotate_left(random.within(0..=3) as usize);
         let arguments = [&["crest"][..], &options.concat()].concat();
         let expected = crest_length(crest);
         assert_eq!(answer(&arguments), expected, "{arguments:?}");
@@ -188,8 +196,8 @@ fn random_crests() {
             Err(number) => refused[number as usize] += 1,
         }
     }
-    let all = [&refused[6..=6], &refused[15..]].concat();
-    assert!(lengths > 100 && all.iter().all(|&many| many > 5), "{lengths}, {refused:?}");
+    let each = [6, 15, 16, 17, 18].iter().all(|&number| refused[number] > 5);
+    assert!(lengths > 100 && each, "{lengths}, {refused:?}");
 }
 
 /// Without a sight distance it is the stopping distance of the speed on the level; eye and object are those of roads.

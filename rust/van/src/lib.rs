@@ -82,7 +82,7 @@ pub fn required_distance(speed: u32, purpose: u32, grade: i32) -> Result<u32, Re
 ///
 /// # Errors
 /// Refused 6 if the speed is not 20 to 130, then 15 if the drop is not 1 to 3,000, then 16 if the sight distance is not 1 to
-/// 800, then 17 if either height is not 1 to 50,000, then 18 if over no even length up to 2,000 m the object is seen: 0.6 V,
+/// 800, then 17 if either height is not 1 to 50,000, then 18 if the object is seen over no even length up to 2,000 m: 0.6 V,
 /// which is at most 78 m, never causes that.
 ///
 /// ```

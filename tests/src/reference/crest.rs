@@ -20,7 +20,7 @@ fn at_most_root(side: i128, factor: i128, radicand: i128) -> bool {
 }
 
 /// The length L is adequate: S ≤ L and L Q ≥ a S², or L < S and a (2S − L) ≤ Q, with Q = 2(e + o) + √(16 e o).
-pub fn adequate(crest: Crest, length: u32) -> bool {
+fn adequate(crest: Crest, length: u32) -> bool {
     let [a, s, e, o, l] = [crest.drop, crest.sight, crest.eye, crest.object, length].map(i128::from);
     let without_root = 2 * (e + o);
     let radicand = 16 * e * o;
@@ -31,8 +31,18 @@ pub fn adequate(crest: Crest, length: u32) -> bool {
     }
 }
 
+/// The lengths that may be answered.
+fn even_lengths() -> impl Iterator<Item = u32> {
+    (0..=2_000).step_by(2)
+}
+
+/// The least of them that is adequate, whatever the speed is.
+pub fn least_adequate(crest: Crest) -> Option<u32> {
+    even_lengths().find(|&length| adequate(crest, length))
+}
+
 /// The length is at least 0.6 V metres, here in tenths of a metre.
-pub fn at_least_minimum(speed: u32, length: u32) -> bool {
+fn at_least_minimum(speed: u32, length: u32) -> bool {
     10 * u64::from(length) >= 6 * u64::from(speed)
 }
 
@@ -50,10 +60,9 @@ pub fn crest_length(crest: Crest) -> Answer {
     if !(1..=50_000).contains(&crest.eye) || !(1..=50_000).contains(&crest.object) {
         return Err(17);
     }
-    let mut even = (0..=2_000).step_by(2);
-    if !even.clone().any(|length| adequate(crest, length)) {
+    if least_adequate(crest).is_none() {
         return Err(18);
     }
-    let least = even.find(|&length| at_least_minimum(crest.speed, length) && adequate(crest, length));
+    let least = even_lengths().find(|&length| at_least_minimum(crest.speed, length) && adequate(crest, length));
     Ok(least.expect("where a length is adequate, one of those from 0.6 V on is"))
 }
