@@ -39,8 +39,7 @@ heightAt l x = getD (ownHeights (crestRoad l)) x (negℤ (pos 1))
 
 -- the least even adequate length of a crest with this drop and sight distance, whatever the speed is: e = 10,800 and o = 6,000
 unfoldable pub leastAdequate : ℕ → ℕ → Answer
-leastAdequate a s =
-    leastEven (crestAdequate a s eyeHeight objectHeight) 0 (greatestCrest / 2 + 1)
+leastAdequate a s = leastEven (crestAdequate a s eyeHeight objectHeight) 0 (greatestCrest / 2 + 1)
 
 pub record StarredCases : Type 0 where
   -- Distances a driver needs: the 129.01 m before rounding in hundredths of a metre, rounded down
