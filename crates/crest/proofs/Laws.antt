@@ -213,6 +213,20 @@ least-even-none v a s u w h =
 abbrev pub crestTest : ℕ → ℕ → ℕ → ℕ → ℕ → ℕ → Bool
 crestTest v a s e o = longEnough v (crestAdequate a s e o)
 
+-- numbers that no test refused are in their ranges
+pub in-range-by :
+    (v a s e o : ℕ) → outside leastSpeed greatestSpeed v ≡ false → outside 1 greatestDrop a ≡ false →
+    outside 1 greatestSightDistance s ≡ false → eyeOrObjectOutside e o ≡ false → InRange v a s e o
+in-range-by v a s e o speed drop sight heights =
+    let h = heights-in e o heights in
+    record {
+      speed = not-outside-in leastSpeed greatestSpeed v speed;
+      drop = not-outside-in 1 greatestDrop a drop;
+      sight = not-outside-in 1 greatestSightDistance s sight;
+      eye = h .0;
+      object = h .1;
+    }
+
 -- in the ranges the answer is that of the search
 pub crest-length-in-range :
     (v a s e o : ℕ) → InRange v a s e o →
@@ -241,16 +255,7 @@ crest-length-past v a s e o y d p =
     let drop = refuse-past (outside 1 greatestDrop a) dropRefused _ y (d _ (omega arith)) (speed .1) in
     let sight = refuse-past (outside 1 greatestSightDistance s) sightDistanceRefused _ y (d _ (omega arith)) (drop .1) in
     let heights = refuse-past (eyeOrObjectOutside e o) heightRefused _ y (d _ (omega arith)) (sight .1) in
-    let h = heights-in e o (heights .0) in (
-      record {
-        speed = not-outside-in leastSpeed greatestSpeed v (speed .0);
-        drop = not-outside-in 1 greatestDrop a (drop .0);
-        sight = not-outside-in 1 greatestSightDistance s (sight .0);
-        eye = h .0;
-        object = h .1;
-      },
-      heights .1,
-    )
+    (in-range-by v a s e o (speed .0) (drop .0) (sight .0) (heights .0), heights .1)
 
 -- r is even, at most 2,000 and passes the test, and no lesser even length does
 pub record Least (test : ℕ → Bool) (r : ℕ) : Type 0 where

@@ -4,11 +4,9 @@ use mathlib.Core.Path.{sym, _∙_}
 use native.Mathlib.Nat.{mul-le-mul}
 use native.Mathlib.Omega.{arith}
 use borrow.Author.Needs.{needs}
-use Rattle.terms.specs.Limits.{leastSpeed, greatestSpeed, greatestDrop, greatestSightDistance}
-use Rattle.terms.proofs.Laws.{not-outside-in, heights-in}
 use Rattle.crest.specs.Crest.{crestLength}
 use Rattle.crest.specs.NoneAdequate.{InRange}
-use Rattle.crest.proofs.Laws.{crest-length-in-range}
+use Rattle.crest.proofs.Laws.{in-range-by, crest-length-in-range}
 use Rattle.crest.proofs.crest_length.Statement.{statement}
 use Rattle.crest.proofs.crest_length.Tie as tie
 
@@ -70,15 +68,11 @@ in-range c =
     let sight = c .before .before in
     let drop = sight .before .before in
     let speed = drop .before .before in
-    let x = speed .before .before .args in
-    let h = heights-in (x .eye) (x .object) (sym (c .before .eye-or-object-outside .ensures) ∙ c .if4 .left) in
-    record {
-      speed = not-outside-in leastSpeed greatestSpeed _ (sym (speed .before .outside .ensures) ∙ speed .if1 .left);
-      drop = not-outside-in 1 greatestDrop _ (sym (drop .before .outside2 .ensures) ∙ drop .if2 .left);
-      sight = not-outside-in 1 greatestSightDistance _ (sym (sight .before .outside3 .ensures) ∙ sight .if3 .left);
-      eye = h .0;
-      object = h .1;
-    }
+    in-range-by _ _ _ _ _
+    (sym (speed .before .outside .ensures) ∙ speed .if1 .left)
+    (sym (drop .before .outside2 .ensures) ∙ drop .if2 .left)
+    (sym (sight .before .outside3 .ensures) ∙ sight .if3 .left)
+    (sym (c .before .eye-or-object-outside .ensures) ∙ c .if4 .left)
 
 add-least-even : tie.Need-add-least-even
 add-least-even c = search needs
