@@ -299,6 +299,7 @@ fn help_is_true() {
     }
     assert!(words("crest").contains("the stopping distance of that speed on the level."));
     assert!(words("crest").contains("at least 0.6 m for each km/h of the speed."));
+    common::expect(&folder, &["crest", "--speed", "100", "--drop", "0.01"], "60\n");
     let letters = ["S  stopping sight is lacking", "D  decision sight is lacking", "s  stopping is not judged"];
     for line in letters.into_iter().chain(["R  reduced decision zone", "d  the decision is not judged"]) {
         assert!(help("list").contains(&format!("\n  {line}")), "{line}");
