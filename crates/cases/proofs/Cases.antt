@@ -3,7 +3,7 @@ use mathlib.Core.Path.{refl}
 use Rattle.whole.specs.Fill.{filled}
 use Rattle.whole.specs.Floor.{floorDiv}
 use Rattle.distance.specs.Distance.{requiredDistance, metresFor, levelMetres, gradedMetres, levelParts, gradedParts, upToFive}
-use Rattle.crest.specs.Crest.{crestLength, leastEven, longEnough, reachesMinimum, adequate, withinRoot}
+use Rattle.curve_lengths.specs.Lengths.{crestLength, leastEven, longEnough, reachesMinimum, adequate, withinRoot}
 use Rattle.road.specs.Road.{roadVerdict, numbersVerdict, curvesVerdict, curveVerdict}
 use Rattle.heights.specs.Profile.{storedHeight, exactHeight, exactFrom}
 use Rattle.heights.specs.Heights.{heightsAnswer, heightsList, ownHeights}

@@ -5,12 +5,12 @@ use mathlib.Core.List.{[], _∷_}
 use Prim.Native.Nat.{ℕ, _+_, _*_, _/_}
 use lib.IntN.{ℤ, pos, negℤ}
 use lib.ListN.{getD, replicate}
-use Rattle.terms.specs.Limits.{stoppingPurpose, greatestCrest, eyeHeight, objectHeight}
+use Rattle.terms.specs.Limits.{stoppingPurpose, greatestAnsweredLength, eyeHeight, objectHeight}
 use Rattle.terms.specs.declared.Answer.{Answer}
 use Rattle.terms.specs.declared.Answer.the-variants.{Number}
 use Rattle.terms.specs.declared.Verdict.the-variants.{Accepted}
 use Rattle.distance.specs.Distance.{purposeRow, metreParts, levelParts, requiredDistance}
-use Rattle.crest.specs.Crest.{crestAdequate, leastEven, crestLength}
+use Rattle.curve_lengths.specs.Lengths.{crestAdequate, leastEven, crestLength}
 use Rattle.road.specs.declared.Curve.{Curve}
 use Rattle.road.specs.declared.Road.{Road}
 use Rattle.road.specs.Road.{roadVerdict}
@@ -39,7 +39,7 @@ heightAt l x = getD (ownHeights (crestRoad l)) x (negℤ (pos 1))
 
 -- the least even adequate length of a crest with this drop and sight distance, whatever the speed is: e = 10,800 and o = 6,000
 unfoldable pub leastAdequate : ℕ → ℕ → Answer
-leastAdequate a s = leastEven (crestAdequate a s eyeHeight objectHeight) 0 (greatestCrest / 2 + 1)
+leastAdequate a s = leastEven (crestAdequate a s eyeHeight objectHeight) 0 (greatestAnsweredLength / 2 + 1)
 
 pub record StarredCases : Type 0 where
   -- Distances a driver needs: the 129.01 m before rounding in hundredths of a metre, rounded down

@@ -40,14 +40,14 @@ abbrev pub greatestCurve : ℕ
 greatestCurve = 2000
 
 -- a crest: its drop in grade in hundredths of a percent, its sight distance and its length in metres
-abbrev pub greatestDrop : ℕ
-greatestDrop = 3000
+abbrev pub greatestGradeChange : ℕ
+greatestGradeChange = 3000
 
 abbrev pub greatestSightDistance : ℕ
 greatestSightDistance = 800
 
-abbrev pub greatestCrest : ℕ
-greatestCrest = 2000
+abbrev pub greatestAnsweredLength : ℕ
+greatestAnsweredLength = 2000
 
 -- the height of an eye or an object in h-units
 abbrev pub greatestHeight : ℕ

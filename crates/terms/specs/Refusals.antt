@@ -58,8 +58,8 @@ abbrev pub roomRefused : ℕ
 roomRefused = 14
 
 -- drop in grade not 1 to 3,000
-abbrev pub dropRefused : ℕ
-dropRefused = 15
+abbrev pub gradeChangeRefused : ℕ
+gradeChangeRefused = 15
 
 -- sight distance not 1 to 800
 abbrev pub sightDistanceRefused : ℕ

@@ -45,7 +45,7 @@ pub const CURVE_ORDER_REFUSED: u8 = 13;
 
 pub const ROOM_REFUSED: u8 = 14;
 
-pub const DROP_REFUSED: u8 = 15;
+pub const GRADE_CHANGE_REFUSED: u8 = 15;
 
 pub const SIGHT_DISTANCE_REFUSED: u8 = 16;
 
@@ -91,11 +91,11 @@ pub const GREATEST_CURVE_COUNT: u8 = 32;
 pub const GREATEST_CURVE: u16 = 2000;
 
 // A crest: its drop in grade, in hundredths of a percent; its sight distance and its length, in metres.
-pub const GREATEST_DROP: u32 = 3000;
+pub const GREATEST_GRADE_CHANGE: u32 = 3000;
 
 pub const GREATEST_SIGHT_DISTANCE: u32 = 800;
 
-pub const GREATEST_CREST: u32 = 2000;
+pub const GREATEST_ANSWERED_LENGTH: u32 = 2000;
 
 // The height of an eye or an object, in h-units.
 pub const GREATEST_HEIGHT: u32 = 50000;

@@ -3,7 +3,7 @@
 ghost use mathlib.Core.Path.{_≡_};
 ghost use Rattle.terms.specs.Answers.{signed};
 ghost use Rattle.distance.specs.Distance.{requiredDistance};
-ghost use Rattle.crest.specs.Crest.{crestLength};
+ghost use Rattle.curve_lengths.specs.Lengths.{crestLength};
 ghost use Rattle.road_marks.specs.RoadMarks.{markFileAnswer, markFileList};
 
 #[no_mangle]
@@ -17,7 +17,7 @@ pub extern "C" fn vcp_required_distance(speed: u32, purpose: u32, grade: i32) ->
 pub extern "C" fn vcp_crest_length(speed: u32, drop: u32, sight: u32, eye: u32, object: u32) -> i32
     ensures { λ r. ⌜ r ≡ signed (crestLength speed drop sight eye object) ⌝ }
 {
-    terms::signed_answer(crest::crest_length(speed, drop, sight, eye, object)) as i32
+    terms::signed_answer(curve_lengths::crest_length(speed, drop, sight, eye, object)) as i32
 }
 
 #[no_mangle]

@@ -2,10 +2,10 @@
 use mathlib.Core.Path.{ap, _∙_}
 use borrow.Author.Needs.{needs}
 use Rattle.terms.specs.Answers.{signed}
-use Rattle.terms.specs.Limits.{greatestCrest}
+use Rattle.terms.specs.Limits.{greatestAnsweredLength}
 use Rattle.terms.specs.declared.Answer.{Answer}
-use Rattle.crest.specs.Crest.{crestLength}
-use Rattle.crest.proofs.Laws.{crest-length-at-most}
+use Rattle.curve_lengths.specs.Lengths.{crestLength}
+use Rattle.curve_lengths.proofs.Laws.{crest-length-at-most}
 use Rattle.van.proofs.Narrow.{Narrows, narrows}
 use Rattle.van.proofs.vcp_crest_length.Statement.{statement}
 use Rattle.van.proofs.vcp_crest_length.Tie as tie
@@ -23,7 +23,7 @@ asked c = let x = c .before .before .args in crestLength (x .speed) (x .drop) (x
 narrow : (c : tie.After-signed-answer) → Narrows (c .signed-answer .result) (asked c)
 narrow c =
     let x = c .before .before .args in
-    narrows greatestCrest _ (asked c) (crest-length-at-most (x .speed) (x .drop) (x .sight) (x .eye) (x .object)) tt (c .signed-answer .ok)
+    narrows greatestAnsweredLength _ (asked c) (crest-length-at-most (x .speed) (x .drop) (x .sight) (x .eye) (x .object)) tt (c .signed-answer .ok)
     (c .signed-answer .ensures ∙ ap signed (c .before .crest-length .ensures))
 
 cast-result : tie.Need-cast-result

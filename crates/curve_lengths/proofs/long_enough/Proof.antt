@@ -3,9 +3,9 @@ use Prim.Native.Nat.{_*_}
 use native.Mathlib.Omega.{arith}
 use borrow.Author.Needs.{needs}
 use borrow.Author.Tests.{le-leb, lt-leb}
-use Rattle.crest.specs.Crest.{reachesMinimum, longEnough}
-use Rattle.crest.proofs.long_enough.Statement.{statement}
-use Rattle.crest.proofs.long_enough.Tie as tie
+use Rattle.curve_lengths.specs.Lengths.{reachesMinimum, longEnough}
+use Rattle.curve_lengths.proofs.long_enough.Statement.{statement}
+use Rattle.curve_lengths.proofs.long_enough.Tie as tie
 
 mul-if1 : tie.Need-mul-if1
 mul-if1 c = search needs

@@ -12,13 +12,13 @@ use lib.Dec.{T, leb, ltb, leb→le, le→leb}
 use lib.IntN.{pos, negsuc, _-ℤ_, _*ℤ_, subℕ}
 use lib.Signed.{_≤ℤ_}
 use Rattle.terms.specs.Answers.{outside, eyeOrObjectOutside, refuse}
-use Rattle.terms.specs.Limits.{leastSpeed, greatestSpeed, greatestDrop, greatestSightDistance, greatestCrest}
-use Rattle.terms.specs.Refusals.{speedRefused, dropRefused, sightDistanceRefused, heightRefused, noLengthRefused}
+use Rattle.terms.specs.Limits.{leastSpeed, greatestSpeed, greatestGradeChange, greatestSightDistance, greatestAnsweredLength}
+use Rattle.terms.specs.Refusals.{speedRefused, gradeChangeRefused, sightDistanceRefused, heightRefused, noLengthRefused}
 use Rattle.terms.proofs.Laws.{AtMost, refuse-at-most, not-outside, not-outside-in, heights-not-outside, heights-in}
 use Rattle.terms.specs.declared.Answer.{Answer}
 use Rattle.terms.specs.declared.Answer.the-variants.{Number, Refused}
-use Rattle.crest.specs.Crest.{withinRoot, adequate, crestAdequate, reachesMinimum, longEnough, leastEven, crestLength}
-use Rattle.crest.specs.NoneAdequate.{InRange, NoneAdequate}
+use Rattle.curve_lengths.specs.Lengths.{withinRoot, adequate, crestAdequate, reachesMinimum, longEnough, leastEven, crestLength}
+use Rattle.curve_lengths.specs.NoneAdequate.{InRange, NoneAdequate}
 
 -- ---- the root
 
@@ -106,9 +106,9 @@ unfolding reachesMinimum
 reaches-minimum-mono v l m h t = le→leb (3 * v) (5 * m) (omega (arith, leb→le (3 * v) (5 * l) t))
 
 -- the minimum for any speed that is not refused is within 2,000 m
-reaches-minimum-greatest : (v : ℕ) → v ≤ greatestSpeed → T (reachesMinimum v greatestCrest)
+reaches-minimum-greatest : (v : ℕ) → v ≤ greatestSpeed → T (reachesMinimum v greatestAnsweredLength)
 unfolding reachesMinimum
-reaches-minimum-greatest v h = le→leb (3 * v) (5 * greatestCrest) (omega arith)
+reaches-minimum-greatest v h = le→leb (3 * v) (5 * greatestAnsweredLength) (omega arith)
 
 -- long enough is both
 pub long-enough-is : (v : ℕ) (test : ℕ → Bool) (l : ℕ) → T (longEnough v test l) ↔ (T (reachesMinimum v l) × T (test l))
@@ -127,10 +127,10 @@ long-enough-mono v a s u w l m h t =
 
 -- where a length up to 2,000 m is adequate, 2,000 m are long enough: so the minimum is never the cause of 18
 long-enough-greatest :
-    (v a s u w l : ℕ) → v ≤ greatestSpeed → l ≤ greatestCrest →
-    T (adequate a s u w l) → T (longEnough v (adequate a s u w) greatestCrest)
+    (v a s u w l : ℕ) → v ≤ greatestSpeed → l ≤ greatestAnsweredLength →
+    T (adequate a s u w l) → T (longEnough v (adequate a s u w) greatestAnsweredLength)
 long-enough-greatest v a s u w l h k t =
-    long-enough-is v (adequate a s u w) greatestCrest .1 (reaches-minimum-greatest v h, adequate-mono a s u w l greatestCrest k t)
+    long-enough-is v (adequate a s u w) greatestAnsweredLength .1 (reaches-minimum-greatest v h, adequate-mono a s u w l greatestAnsweredLength k t)
 
 -- ---- the least even length
 
@@ -195,13 +195,13 @@ module _ (test : ℕ → Bool) where
 -- of the lengths that are long enough none is found exactly where no even length up to 2,000 is adequate, whatever Q = u + √w
 least-even-none :
     (v a s u w : ℕ) → v ≤ greatestSpeed →
-    (leastEven (longEnough v (adequate a s u w)) 0 (greatestCrest / 2 + 1) ≡ Refused noLengthRefused) ↔
-    ((l : ℕ) → l % 2 ≡ 0 → l ≤ greatestCrest → T (adequate a s u w l) → ⊥)
+    (leastEven (longEnough v (adequate a s u w)) 0 (greatestAnsweredLength / 2 + 1) ≡ Refused noLengthRefused) ↔
+    ((l : ℕ) → l % 2 ≡ 0 → l ≤ greatestAnsweredLength → T (adequate a s u w l) → ⊥)
 least-even-none v a s u w h =
     let test = longEnough v (adequate a s u w) in
-    let n = greatestCrest / 2 + 1 in (
+    let n = greatestAnsweredLength / 2 + 1 in (
       (λ p l even k t.
-          subst (FirstEven test 0 n) p (least-even-is test 0 n) .1 (greatestCrest / 2) (omega arith)
+          subst (FirstEven test 0 n) p (least-even-is test 0 n) .1 (greatestAnsweredLength / 2) (omega arith)
           (long-enough-greatest v a s u w l h k t)),
       λ f. sym (least-even-only test 0 n (Refused noLengthRefused)
           (refl, λ j l t. f (0 + 2 * j) (omega arith) (omega arith) (long-enough-is v (adequate a s u w) (0 + 2 * j) .0 t .1))),
@@ -215,13 +215,13 @@ crestTest v a s e o = longEnough v (crestAdequate a s e o)
 
 -- numbers that no test refused are in their ranges
 pub in-range-by :
-    (v a s e o : ℕ) → outside leastSpeed greatestSpeed v ≡ false → outside 1 greatestDrop a ≡ false →
+    (v a s e o : ℕ) → outside leastSpeed greatestSpeed v ≡ false → outside 1 greatestGradeChange a ≡ false →
     outside 1 greatestSightDistance s ≡ false → eyeOrObjectOutside e o ≡ false → InRange v a s e o
 in-range-by v a s e o speed drop sight heights =
     let h = heights-in e o heights in
     record {
       speed = not-outside-in leastSpeed greatestSpeed v speed;
-      drop = not-outside-in 1 greatestDrop a drop;
+      drop = not-outside-in 1 greatestGradeChange a drop;
       sight = not-outside-in 1 greatestSightDistance s sight;
       eye = h .0;
       object = h .1;
@@ -230,12 +230,12 @@ in-range-by v a s e o speed drop sight heights =
 -- in the ranges the answer is that of the search
 pub crest-length-in-range :
     (v a s e o : ℕ) → InRange v a s e o →
-    crestLength v a s e o ≡ leastEven (crestTest v a s e o) 0 (greatestCrest / 2 + 1)
+    crestLength v a s e o ≡ leastEven (crestTest v a s e o) 0 (greatestAnsweredLength / 2 + 1)
 unfolding crestLength
 crest-length-in-range v a s e o h =
     simp (
       not-outside leastSpeed greatestSpeed v (h .speed),
-      not-outside 1 greatestDrop a (h .drop),
+      not-outside 1 greatestGradeChange a (h .drop),
       not-outside 1 greatestSightDistance s (h .sight),
       heights-not-outside e o (h .eye) (h .object),
     )
@@ -248,11 +248,11 @@ refuse-past false k x y d p = (refl, p)
 -- an answer that is no refusal before 18 is that of the search, of numbers in their ranges
 crest-length-past :
     (v a s e o : ℕ) (y : Answer) → ((k : ℕ) → k < noLengthRefused → Refused k ≡ y → ⊥) → crestLength v a s e o ≡ y →
-    InRange v a s e o × (leastEven (crestTest v a s e o) 0 (greatestCrest / 2 + 1) ≡ y)
+    InRange v a s e o × (leastEven (crestTest v a s e o) 0 (greatestAnsweredLength / 2 + 1) ≡ y)
 unfolding crestLength
 crest-length-past v a s e o y d p =
     let speed = refuse-past (outside leastSpeed greatestSpeed v) speedRefused _ y (d _ (omega arith)) p in
-    let drop = refuse-past (outside 1 greatestDrop a) dropRefused _ y (d _ (omega arith)) (speed .1) in
+    let drop = refuse-past (outside 1 greatestGradeChange a) gradeChangeRefused _ y (d _ (omega arith)) (speed .1) in
     let sight = refuse-past (outside 1 greatestSightDistance s) sightDistanceRefused _ y (d _ (omega arith)) (drop .1) in
     let heights = refuse-past (eyeOrObjectOutside e o) heightRefused _ y (d _ (omega arith)) (sight .1) in
     (in-range-by v a s e o (speed .0) (drop .0) (sight .0) (heights .0), heights .1)
@@ -260,11 +260,11 @@ crest-length-past v a s e o y d p =
 -- r is even, at most 2,000 and passes the test, and no lesser even length does
 pub record Least (test : ℕ → Bool) (r : ℕ) : Type 0 where
   pub even : r % 2 ≡ 0
-  pub within : r ≤ greatestCrest
+  pub within : r ≤ greatestAnsweredLength
   pub passes : T (test r)
   pub least : (m : ℕ) → m % 2 ≡ 0 → m < r → T (test m) → ⊥
 
-first-least : (test : ℕ → Bool) (r : ℕ) → First test 0 (greatestCrest / 2 + 1) r → Least test r
+first-least : (test : ℕ → Bool) (r : ℕ) → First test 0 (greatestAnsweredLength / 2 + 1) r → Least test r
 first-least test r f =
     record {
       even = omega arith;
@@ -281,23 +281,23 @@ refused-not-number k r p = let z : _≡_ {A = ℕ} 0 1 = cc in omega arith
 pub crest-length-number : (v a s e o r : ℕ) → crestLength v a s e o ≡ Number r → Least (crestTest v a s e o) r
 crest-length-number v a s e o r p =
     let test = crestTest v a s e o in
-    let n = greatestCrest / 2 + 1 in
+    let n = greatestAnsweredLength / 2 + 1 in
     first-least test r
     (subst (FirstEven test 0 n) (crest-length-past v a s e o (Number r) (λ k h. refused-not-number k r) p .1) (least-even-is test 0 n))
 
 -- so it is at most 2,000
 first-even-at-most :
-    (test : ℕ → Bool) (x : Answer) → FirstEven test 0 (greatestCrest / 2 + 1) x → AtMost greatestCrest x
+    (test : ℕ → Bool) (x : Answer) → FirstEven test 0 (greatestAnsweredLength / 2 + 1) x → AtMost greatestAnsweredLength x
 first-even-at-most test (Number r) f = omega arith
 first-even-at-most test (Refused k) f = omega (arith, f .0)
 
-pub crest-length-at-most : (v a s e o : ℕ) → AtMost greatestCrest (crestLength v a s e o)
+pub crest-length-at-most : (v a s e o : ℕ) → AtMost greatestAnsweredLength (crestLength v a s e o)
 unfolding crestLength
 crest-length-at-most v a s e o =
     let test = crestTest v a s e o in
-    let n = greatestCrest / 2 + 1 in
+    let n = greatestAnsweredLength / 2 + 1 in
     refuse-at-most (outside leastSpeed greatestSpeed v) _ _ _ (omega arith) (λ i.
-    refuse-at-most (outside 1 greatestDrop a) _ _ _ (omega arith) (λ p.
+    refuse-at-most (outside 1 greatestGradeChange a) _ _ _ (omega arith) (λ p.
     refuse-at-most (outside 1 greatestSightDistance s) _ _ _ (omega arith) (λ q.
     refuse-at-most (eyeOrObjectOutside e o) _ _ _ (omega arith) (λ t.
     first-even-at-most test (leastEven test 0 n) (least-even-is test 0 n)))))

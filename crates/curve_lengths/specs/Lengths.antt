@@ -10,8 +10,8 @@ use Prim.Native.Nat.{ℕ, zero, suc, _+_, _*_, _-_, _/_}
 use mathlib.Core.Bool.{Bool, cond, _||_, _&&_}
 use lib.Dec.{leb}
 use Rattle.terms.specs.Answers.{outside, eyeOrObjectOutside, refuse}
-use Rattle.terms.specs.Limits.{leastSpeed, greatestSpeed, greatestDrop, greatestSightDistance, greatestCrest}
-use Rattle.terms.specs.Refusals.{speedRefused, dropRefused, sightDistanceRefused, heightRefused, noLengthRefused}
+use Rattle.terms.specs.Limits.{leastSpeed, greatestSpeed, greatestGradeChange, greatestSightDistance, greatestAnsweredLength}
+use Rattle.terms.specs.Refusals.{speedRefused, gradeChangeRefused, sightDistanceRefused, heightRefused, noLengthRefused}
 use Rattle.terms.specs.declared.Answer.{Answer}
 use Rattle.terms.specs.declared.Answer.the-variants.{Number, Refused}
 
@@ -48,7 +48,7 @@ leastEven test l (suc n) = cond (test l) (Number l) (leastEven test (l + 2) n)
 unfoldable pub crestLength : ℕ → ℕ → ℕ → ℕ → ℕ → Answer
 crestLength v a s e o =
     refuse (outside leastSpeed greatestSpeed v) speedRefused
-    (refuse (outside 1 greatestDrop a) dropRefused
+    (refuse (outside 1 greatestGradeChange a) gradeChangeRefused
     (refuse (outside 1 greatestSightDistance s) sightDistanceRefused
     (refuse (eyeOrObjectOutside e o) heightRefused
-    (leastEven (longEnough v (crestAdequate a s e o)) 0 (greatestCrest / 2 + 1)))))
+    (leastEven (longEnough v (crestAdequate a s e o)) 0 (greatestAnsweredLength / 2 + 1)))))

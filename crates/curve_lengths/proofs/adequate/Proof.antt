@@ -5,9 +5,9 @@ use native.Mathlib.Omega.{arith}
 use borrow.Author.Needs.{needs}
 use borrow.Author.Tests.{le-leb, lt-leb}
 use Rattle.terms.specs.Limits.{greatestSightDistance}
-use Rattle.crest.specs.Crest.{adequate}
-use Rattle.crest.proofs.adequate.Statement.{statement}
-use Rattle.crest.proofs.adequate.Tie as tie
+use Rattle.curve_lengths.specs.Lengths.{adequate}
+use Rattle.curve_lengths.proofs.adequate.Statement.{statement}
+use Rattle.curve_lengths.proofs.adequate.Tie as tie
 
 mul-within-root : tie.Need-mul-within-root
 mul-within-root c = omega (arith, mul-le-mul (c .before .pre .0 .sight) (c .before .pre .0 .sight))

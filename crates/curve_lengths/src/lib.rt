@@ -2,14 +2,14 @@
 // numbers alone.
 ghost use mathlib.Core.Path.{_≡_};
 ghost use Prim.Native.Nat.{_≤_, _+_, _*_, _/_};
-ghost use Rattle.crest.specs.Crest.{withinRoot, adequate, longEnough, leastEven, crestLength};
-ghost use Rattle.crest.specs.Sizes.{Sized};
-ghost use Rattle.terms.specs.Limits.{greatestSpeed, greatestDrop, greatestSightDistance, greatestCrest};
+ghost use Rattle.curve_lengths.specs.Lengths.{withinRoot, adequate, longEnough, leastEven, crestLength};
+ghost use Rattle.curve_lengths.specs.Sizes.{Sized};
+ghost use Rattle.terms.specs.Limits.{greatestSpeed, greatestGradeChange, greatestSightDistance, greatestAnsweredLength};
 use terms::Answer;
 
 // Whether x − y ≤ √z. The largest x is a S² = 1,920,000,000, whose square is below 3.7 × 10^18.
 fn within_root(x: u64, y: u64, z: u64) -> bool
-    requires { ⌜ x ≤ greatestDrop * (greatestSightDistance * greatestSightDistance) ⌝ }
+    requires { ⌜ x ≤ greatestGradeChange * (greatestSightDistance * greatestSightDistance) ⌝ }
     ensures { λ r. ⌜ r ≡ withinRoot x y z ⌝ }
 {
     if x <= y {
@@ -22,7 +22,7 @@ fn within_root(x: u64, y: u64, z: u64) -> bool
 // Whether the length l is adequate for the drop a and the sight distance s, with Q = u + √w. The largest product is
 // l² w = 4,000,000 × 40,000,000,000 = 1.6 × 10^17.
 fn adequate(a: u64, s: u64, u: u64, w: u64, l: u64) -> bool
-    requires { ⌜ Sized a s u w × (l ≤ greatestCrest) ⌝ }
+    requires { ⌜ Sized a s u w × (l ≤ greatestAnsweredLength) ⌝ }
     ensures { λ r. ⌜ r ≡ adequate a s u w l ⌝ }
 {
     if s <= l {
@@ -33,7 +33,7 @@ fn adequate(a: u64, s: u64, u: u64, w: u64, l: u64) -> bool
 
 // Whether the length l is long enough: it reaches the minimum for the speed v, and it is adequate.
 fn long_enough(v: u64, a: u64, s: u64, u: u64, w: u64, l: u64) -> bool
-    requires { ⌜ (v ≤ greatestSpeed) × Sized a s u w × (l ≤ greatestCrest) ⌝ }
+    requires { ⌜ (v ≤ greatestSpeed) × Sized a s u w × (l ≤ greatestAnsweredLength) ⌝ }
     ensures { λ r. ⌜ r ≡ longEnough v (adequate a s u w) l ⌝ }
 {
     if 5 * l < 3 * v {
@@ -46,9 +46,9 @@ fn long_enough(v: u64, a: u64, s: u64, u: u64, w: u64, l: u64) -> bool
 // tested.
 fn least_even(v: u64, a: u64, s: u64, u: u64, w: u64) -> Answer
     requires { ⌜ (v ≤ greatestSpeed) × Sized a s u w ⌝ }
-    ensures { λ r. ⌜ r ≡ leastEven (longEnough v (adequate a s u w)) 0 (greatestCrest / 2 + 1) ⌝ }
+    ensures { λ r. ⌜ r ≡ leastEven (longEnough v (adequate a s u w)) 0 (greatestAnsweredLength / 2 + 1) ⌝ }
 {
-    let last = (terms::GREATEST_CREST / 2) as u64;
+    let last = (terms::GREATEST_ANSWERED_LENGTH / 2) as u64;
     let mut low = 0;
     let mut high = last + 1;
     while low < high {
@@ -75,8 +75,8 @@ pub fn crest_length(speed: u32, drop: u32, sight: u32, eye: u32, object: u32) ->
     if terms::outside(terms::LEAST_SPEED, terms::GREATEST_SPEED, speed) {
         return Answer::Refused(terms::SPEED_REFUSED);
     }
-    if terms::outside(1, terms::GREATEST_DROP, drop) {
-        return Answer::Refused(terms::DROP_REFUSED);
+    if terms::outside(1, terms::GREATEST_GRADE_CHANGE, drop) {
+        return Answer::Refused(terms::GRADE_CHANGE_REFUSED);
     }
     if terms::outside(1, terms::GREATEST_SIGHT_DISTANCE, sight) {
         return Answer::Refused(terms::SIGHT_DISTANCE_REFUSED);

@@ -4,10 +4,10 @@ use native.Mathlib.Nat.{mul-le-mul}
 use native.Mathlib.Omega.{arith}
 use borrow.Author.Needs.{needs}
 use borrow.Author.Tests.{le-leb, lt-leb}
-use Rattle.terms.specs.Limits.{greatestDrop, greatestSightDistance}
-use Rattle.crest.specs.Crest.{withinRoot}
-use Rattle.crest.proofs.within_root.Statement.{statement}
-use Rattle.crest.proofs.within_root.Tie as tie
+use Rattle.terms.specs.Limits.{greatestGradeChange, greatestSightDistance}
+use Rattle.curve_lengths.specs.Lengths.{withinRoot}
+use Rattle.curve_lengths.proofs.within_root.Statement.{statement}
+use Rattle.curve_lengths.proofs.within_root.Tie as tie
 
 returns : tie.Need-returns
 unfolding withinRoot
@@ -18,7 +18,7 @@ sub-over c = search needs
 
 mul-result : tie.Need-mul-result
 mul-result c =
-    let most = greatestDrop * (greatestSightDistance * greatestSightDistance) in
+    let most = greatestGradeChange * (greatestSightDistance * greatestSightDistance) in
     let h : c .before .args .x - c .before .args .y ≤ most = omega arith in
     omega (arith, mul-le-mul h h)
 

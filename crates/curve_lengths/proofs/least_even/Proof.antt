@@ -8,19 +8,19 @@ use mathlib.Core.Bool.{Bool, true, false}
 use mathlib.Core.Path.{_≡_, refl, sym, subst, _∙_}
 use borrow.Author.Needs.{needs}
 use lib.Dec.{T}
-use Rattle.terms.specs.Limits.{greatestCrest}
+use Rattle.terms.specs.Limits.{greatestAnsweredLength}
 use Rattle.terms.specs.Refusals.{noLengthRefused}
 use Rattle.terms.specs.declared.Answer.the-variants.{Number, Refused}
-use Rattle.crest.specs.Crest.{adequate, longEnough, leastEven}
-use Rattle.crest.proofs.Laws.{long-enough-mono, least-even-only}
-use Rattle.crest.proofs.least_even.Statement.{statement}
-use Rattle.crest.proofs.least_even.Tie as tie
+use Rattle.curve_lengths.specs.Lengths.{adequate, longEnough, leastEven}
+use Rattle.curve_lengths.proofs.Laws.{long-enough-mono, least-even-only}
+use Rattle.curve_lengths.proofs.least_even.Statement.{statement}
+use Rattle.curve_lengths.proofs.least_even.Tie as tie
 
 record Searched (test : ℕ → Bool) (low high : ℕ) : Type 0 where
   ordered : low ≤ high
-  within : high ≤ greatestCrest / 2 + 1
+  within : high ≤ greatestAnsweredLength / 2 + 1
   below : (j : ℕ) → j < low → T (test (2 * j)) → ⊥
-  found : high ≤ greatestCrest / 2 → T (test (2 * high))
+  found : high ≤ greatestAnsweredLength / 2 → T (test (2 * high))
 
 module _ (test : ℕ → Bool) (low high : ℕ) (i : Searched test low high) where
   lowered : (half : ℕ) → low ≤ half → half < high → test (2 * half) ≡ true → Searched test low half
@@ -37,14 +37,14 @@ module _ (test : ℕ → Bool) (low high : ℕ) (i : Searched test low high) whe
         below = λ j k p. rw t at (mono (2 * j) (2 * half) (omega arith) p);
       }
 
-  past-all : high ≤ low → greatestCrest / 2 < high → Refused noLengthRefused ≡ leastEven test 0 (greatestCrest / 2 + 1)
+  past-all : high ≤ low → greatestAnsweredLength / 2 < high → Refused noLengthRefused ≡ leastEven test 0 (greatestAnsweredLength / 2 + 1)
   past-all h k =
-      least-even-only test 0 (greatestCrest / 2 + 1) (Refused noLengthRefused)
+      least-even-only test 0 (greatestAnsweredLength / 2 + 1) (Refused noLengthRefused)
       (refl, λ j l t. i .below j (omega arith) (subst (λ (x : ℕ). T (test x)) (omega arith) t))
 
-  met : high ≤ low → high ≤ greatestCrest / 2 → Number (2 * high) ≡ leastEven test 0 (greatestCrest / 2 + 1)
+  met : high ≤ low → high ≤ greatestAnsweredLength / 2 → Number (2 * high) ≡ leastEven test 0 (greatestAnsweredLength / 2 + 1)
   met h k =
-      least-even-only test 0 (greatestCrest / 2 + 1) (Number (2 * high))
+      least-even-only test 0 (greatestAnsweredLength / 2 + 1) (Number (2 * high))
       (record {
         index = high;
         within = omega arith;

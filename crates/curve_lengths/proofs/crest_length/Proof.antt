@@ -4,11 +4,11 @@ use mathlib.Core.Path.{sym, _∙_}
 use native.Mathlib.Nat.{mul-le-mul}
 use native.Mathlib.Omega.{arith}
 use borrow.Author.Needs.{needs}
-use Rattle.crest.specs.Crest.{crestLength}
-use Rattle.crest.specs.NoneAdequate.{InRange}
-use Rattle.crest.proofs.Laws.{in-range-by, crest-length-in-range}
-use Rattle.crest.proofs.crest_length.Statement.{statement}
-use Rattle.crest.proofs.crest_length.Tie as tie
+use Rattle.curve_lengths.specs.Lengths.{crestLength}
+use Rattle.curve_lengths.specs.NoneAdequate.{InRange}
+use Rattle.curve_lengths.proofs.Laws.{in-range-by, crest-length-in-range}
+use Rattle.curve_lengths.proofs.crest_length.Statement.{statement}
+use Rattle.curve_lengths.proofs.crest_length.Tie as tie
 
 outside-requires : tie.Need-outside-requires
 outside-requires c κs = search needs
