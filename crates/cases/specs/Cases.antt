@@ -2,15 +2,15 @@
 -- height 0 at 100 stand beside them.
 use mathlib.Core.Path.{_≡_}
 use mathlib.Core.List.{[], _∷_}
-use Prim.Native.Nat.{ℕ, _+_, _*_, _/_}
+use Prim.Native.Nat.{ℕ, _*_, _/_}
 use lib.IntN.{ℤ, pos, negℤ}
 use lib.ListN.{getD, replicate}
-use Rattle.terms.specs.Limits.{stoppingPurpose, greatestAnsweredLength, eyeHeight, objectHeight}
+use Rattle.terms.specs.Limits.{stoppingPurpose, eyeHeight, objectHeight}
 use Rattle.terms.specs.declared.Answer.{Answer}
 use Rattle.terms.specs.declared.Answer.the-variants.{Number}
 use Rattle.terms.specs.declared.Verdict.the-variants.{Accepted}
 use Rattle.distance.specs.Distance.{purposeRow, metreParts, levelParts, requiredDistance}
-use Rattle.curve_lengths.specs.Lengths.{crestAdequate, leastEven, crestLength}
+use Rattle.curve_lengths.specs.Lengths.{crestAdequate, sagAdequate, leastLength, crestLength, sagLength}
 use Rattle.road.specs.declared.Curve.{Curve}
 use Rattle.road.specs.declared.Road.{Road}
 use Rattle.road.specs.Road.{roadVerdict}
@@ -39,7 +39,7 @@ heightAt l x = getD (ownHeights (crestRoad l)) x (negℤ (pos 1))
 
 -- the least even adequate length of a crest with this drop and sight distance, whatever the speed is: e = 10,800 and o = 6,000
 unfoldable pub leastAdequate : ℕ → ℕ → Answer
-leastAdequate a s = leastEven (crestAdequate a s eyeHeight objectHeight) 0 (greatestAnsweredLength / 2 + 1)
+leastAdequate a s = leastLength (crestAdequate a s eyeHeight objectHeight)
 
 pub record StarredCases : Type 0 where
   -- Distances a driver needs: the 129.01 m before rounding in hundredths of a metre, rounded down
@@ -64,6 +64,14 @@ pub record StarredCases : Type 0 where
       × (leastAdequate 300 130 ≡ Number 42)
       × (leastAdequate 253 130 ≡ Number 0)
       × (leastAdequate 254 130 ≡ Number 2)
+  -- How long a sag must be: longer than the sight distance, shorter than it, and by the minimum for the speed, below which the least
+  -- adequate lengths of the last two lie
+  pub sags :
+      (sagLength 80 600 130 ≡ Number 178)
+      × (sagLength 80 300 130 ≡ Number 70)
+      × (sagLength 80 221 130 ≡ Number 48)
+      × (leastLength (sagAdequate 221 130) ≡ Number 0)
+      × (leastLength (sagAdequate 222 130) ≡ Number 2)
   -- The road and its heights
   pub heights :
       (roadVerdict (crestRoad 20) ≡ Accepted)

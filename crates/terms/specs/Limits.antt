@@ -39,7 +39,7 @@ greatestCurveCount = 32
 abbrev pub greatestCurve : ℕ
 greatestCurve = 2000
 
--- a crest: its drop in grade in hundredths of a percent, its sight distance and its length in metres
+-- a crest or a sag: its drop or rise in grade in hundredths of a percent, its sight distance and the length that is answered in metres
 abbrev pub greatestGradeChange : ℕ
 greatestGradeChange = 3000
 

@@ -57,7 +57,7 @@ curveOrderRefused = 13
 abbrev pub roomRefused : ℕ
 roomRefused = 14
 
--- drop in grade not 1 to 3,000
+-- drop or rise in grade not 1 to 3,000
 abbrev pub gradeChangeRefused : ℕ
 gradeChangeRefused = 15
 

@@ -90,7 +90,8 @@ pub const GREATEST_CURVE_COUNT: u8 = 32;
 
 pub const GREATEST_CURVE: u16 = 2000;
 
-// A crest: its drop in grade, in hundredths of a percent; its sight distance and its length, in metres.
+// A crest or a sag: its drop or rise in grade, in hundredths of a percent; its sight distance and the length that is answered, in
+// metres.
 pub const GREATEST_GRADE_CHANGE: u32 = 3000;
 
 pub const GREATEST_SIGHT_DISTANCE: u32 = 800;

@@ -13,7 +13,7 @@ mul-within-root : tie.Need-mul-within-root
 mul-within-root c = omega (arith, mul-le-mul (c .before .pre .0 .sight) (c .before .pre .0 .sight))
 
 mul-within-root-2 : tie.Need-mul-within-root-2
-mul-within-root-2 c = omega (arith, mul-le-mul (c .before .pre .0 .drop) (mul-le-mul (c .before .pre .0 .sight) (c .before .pre .0 .sight)))
+mul-within-root-2 c = omega (arith, mul-le-mul (c .before .pre .0 .change) (mul-le-mul (c .before .pre .0 .sight) (c .before .pre .0 .sight)))
 
 mul-within-root-3 : tie.Need-mul-within-root-3
 mul-within-root-3 c = omega (arith, mul-le-mul (c .before .pre .1) (c .before .pre .0 .whole-part))
@@ -25,7 +25,7 @@ mul-within-root-5 : tie.Need-mul-within-root-5
 mul-within-root-5 c = omega (arith, mul-le-mul (mul-le-mul (c .before .pre .1) (c .before .pre .1)) (c .before .pre .0 .under-root))
 
 within-root-requires : tie.Need-within-root-requires
-within-root-requires c κs = mul-le-mul (c .before .pre .0 .drop) (mul-le-mul (c .before .pre .0 .sight) (c .before .pre .0 .sight))
+within-root-requires c κs = mul-le-mul (c .before .pre .0 .change) (mul-le-mul (c .before .pre .0 .sight) (c .before .pre .0 .sight))
 
 returns : tie.Need-returns
 unfolding adequate
@@ -40,12 +40,12 @@ sub-within-root c = search needs
 mul-within-root-7 : tie.Need-mul-within-root-7
 mul-within-root-7 c =
     let h : 2 * c .before .args .s - c .before .args .l ≤ 2 * greatestSightDistance = omega arith in
-    omega (arith, mul-le-mul (c .before .pre .0 .drop) h)
+    omega (arith, mul-le-mul (c .before .pre .0 .change) h)
 
 within-root-requires-2 : tie.Need-within-root-requires-2
 within-root-requires-2 c κs =
     let h : 2 * c .before .args .s - c .before .args .l ≤ 2 * greatestSightDistance = omega arith in
-    omega (arith, mul-le-mul (c .before .pre .0 .drop) h)
+    omega (arith, mul-le-mul (c .before .pre .0 .change) h)
 
 returns-2 : tie.Need-returns-2
 unfolding adequate

@@ -1,7 +1,7 @@
 -- A binary search over half lengths. The invariant: no half length below `low` is long enough, and `high` is long enough
--- or past the last. The measure is what lies between. A test of the middle moves one end, since a longer crest is long
--- enough where a shorter one is (`long-enough-mono`); where the ends meet they are the first that passes, and the definition
--- has no other answer (`least-even-only`).
+-- or past the last. The measure is what lies between. A test of the middle moves one end, since a longer curve is long enough
+-- where a shorter one is (`long-enough-mono`, `never-falls-away`); where the ends meet they are the first that passes, and the
+-- definition has no other answer (`least-length-only`).
 use Prim.Native.Nat.{ℕ, _≤_, _<_, _-_, _+_, _*_, _/_}
 use native.Mathlib.Omega.{arith}
 use mathlib.Core.Bool.{Bool, true, false}
@@ -11,10 +11,11 @@ use lib.Dec.{T}
 use Rattle.terms.specs.Limits.{greatestAnsweredLength}
 use Rattle.terms.specs.Refusals.{noLengthRefused}
 use Rattle.terms.specs.declared.Answer.the-variants.{Number, Refused}
-use Rattle.curve_lengths.specs.Lengths.{adequate, longEnough, leastEven}
-use Rattle.curve_lengths.proofs.Laws.{long-enough-mono, least-even-only}
-use Rattle.curve_lengths.proofs.least_even.Statement.{statement}
-use Rattle.curve_lengths.proofs.least_even.Tie as tie
+use Rattle.curve_lengths.specs.Lengths.{adequate, longEnough, leastLength}
+use Rattle.curve_lengths.specs.NeverFallsAway.{KeptByLonger}
+use Rattle.curve_lengths.proofs.Laws.{never-falls-away, long-enough-mono, least-length-only}
+use Rattle.curve_lengths.proofs.least_length.Statement.{statement}
+use Rattle.curve_lengths.proofs.least_length.Tie as tie
 
 record Searched (test : ℕ → Bool) (low high : ℕ) : Type 0 where
   ordered : low ≤ high
@@ -27,24 +28,23 @@ module _ (test : ℕ → Bool) (low high : ℕ) (i : Searched test low high) whe
   lowered half h k t = record { ordered = h; within = omega arith; below = i .below; found = λ _. rw t tt }
 
   raised :
-      ((l m : ℕ) → l ≤ m → T (test l) → T (test m)) →
-      (half : ℕ) → half < high → test (2 * half) ≡ false → Searched test (half + 1) high
-  raised mono half h t =
+      KeptByLonger test → (half : ℕ) → half < high → test (2 * half) ≡ false → Searched test (half + 1) high
+  raised kept half h t =
       record {
         ordered = omega arith;
         within = i .within;
         found = i .found;
-        below = λ j k p. rw t at (mono (2 * j) (2 * half) (omega arith) p);
+        below = λ j k p. rw t at (kept (2 * j) (2 * half) (omega arith) p);
       }
 
-  past-all : high ≤ low → greatestAnsweredLength / 2 < high → Refused noLengthRefused ≡ leastEven test 0 (greatestAnsweredLength / 2 + 1)
+  past-all : high ≤ low → greatestAnsweredLength / 2 < high → Refused noLengthRefused ≡ leastLength test
   past-all h k =
-      least-even-only test 0 (greatestAnsweredLength / 2 + 1) (Refused noLengthRefused)
+      least-length-only test (Refused noLengthRefused)
       (refl, λ j l t. i .below j (omega arith) (subst (λ (x : ℕ). T (test x)) (omega arith) t))
 
-  met : high ≤ low → high ≤ greatestAnsweredLength / 2 → Number (2 * high) ≡ leastEven test 0 (greatestAnsweredLength / 2 + 1)
+  met : high ≤ low → high ≤ greatestAnsweredLength / 2 → Number (2 * high) ≡ leastLength test
   met h k =
-      least-even-only test 0 (greatestAnsweredLength / 2 + 1) (Number (2 * high))
+      least-length-only test (Number (2 * high))
       (record {
         index = high;
         within = omega arith;
@@ -96,7 +96,7 @@ loop-less-2 c = search needs
 
 loop-again-2 : tie.Need-loop-again-2 Inv-loop μ-loop
 loop-again-2 c =
-    raised _ _ _ (c .before .before .before .loop .inv) (long-enough-mono _ _ _ _ _) _ (omega arith)
+    raised _ _ _ (c .before .before .before .loop .inv) (long-enough-mono _ _ (never-falls-away .any _ _ _ _)) _ (omega arith)
     (sym (c .before .long-enough .ensures) ∙ c .if1 .left)
 
 returns : tie.Need-returns Inv-loop μ-loop
@@ -111,8 +111,8 @@ cast-metres c = search needs
 returns-2 : tie.Need-returns-2 Inv-loop μ-loop
 returns-2 c = met _ _ _ (c .before .before .loop .inv) (omega arith) (omega arith)
 
-pub least-even-spec : {M : Type 1} → statement M
-least-even-spec =
+pub least-length-spec : {M : Type 1} → statement M
+least-length-spec =
     tie.close
     (tie.spec
     Inv-loop
