@@ -4,6 +4,7 @@
 const VAN: [&str; 2] = [include_str!("../../crates/van/src/lib.rt"), include_str!("../../rust/van/src/lib.rs")];
 const EXPORTS: [&str; 2] = [
     concat!(
+        include_str!("../../crates/curve_exports/src/lib.rt"),
         include_str!("../../crates/sight_exports/src/lib.rt"),
         include_str!("../../crates/marks_exports/src/lib.rt"),
         include_str!("../../crates/file_exports/src/lib.rt"),
@@ -111,7 +112,7 @@ fn differing([rattle, rust]: [&str; 2]) -> Vec<String> {
 
 #[test]
 fn declarations_are_those_of_the_proved_crates() {
-    for (pair, many) in [(VAN, 3), (EXPORTS, 8)] {
+    for (pair, many) in [(VAN, 3), (EXPORTS, 9)] {
         assert_eq!(exported(pair[0]).len(), many);
         assert_eq!(differing(pair), [""; 0], "{:#?}\n{:#?}", exported(pair[0]), declared(pair[1]));
     }

@@ -77,7 +77,7 @@ fn linked(document: &str, link: &str) -> String {
 /// Each law that these documents name is a public term of the file that its row names.
 #[test]
 fn laws_are_those_of_the_files() {
-    for (path, least) in [("README.md", 5), ("docs/ARCHITECTURE.md", 15)] {
+    for (path, least) in [("README.md", 7), ("docs/ARCHITECTURE.md", 15)] {
         let document = prose(&text(path));
         let mut found = 0;
         for line in document.lines() {
@@ -123,7 +123,7 @@ fn theorems_are_held_in_place() {
             found += 1;
         }
     }
-    assert!(found >= 5, "{found} theorems");
+    assert!(found >= 7, "{found} theorems");
 }
 
 /// Each `crate::function` that these documents name is a public one of that crate.
@@ -157,7 +157,7 @@ fn every_contract_is_in_the_table() {
     assert!(named.is_subset(&functions), "{:?}", named.difference(&functions));
     let left: BTreeSet<&str> =
         functions.difference(&named).map(|function| function.split("::").next().unwrap_or_default()).collect();
-    assert_eq!(left, BTreeSet::from(["listing_exports", "marks_exports", "sight_exports"]));
+    assert_eq!(left, BTreeSet::from(["curve_exports", "listing_exports", "marks_exports", "sight_exports"]));
 }
 
 /// An edit as the table of wrong answers has it: its name, and what it changes.

@@ -170,6 +170,11 @@ pub fn distance(given: &Given, output: &mut Output) -> Result<u8, Trouble> {
     print(output, vcp::required_distance(speed, purpose, grade).map_err(Trouble::refused("vcp distance"))?)
 }
 
+/// The sight distance that is given; where none is, the stopping distance of the speed on the level.
+fn sight_or_stopping(sight: Option<u32>, speed: u32) -> Result<u32, Refusal> {
+    sight.map_or_else(|| vcp::required_distance(speed, purpose::STOPPING, LEVEL), Ok)
+}
+
 /// `vcp crest`.
 pub fn crest(given: &Given, output: &mut Output) -> Result<u8, Trouble> {
     let speed = given.needed("--speed", |text| WHOLE.read(text))?;
@@ -177,10 +182,15 @@ pub fn crest(given: &Given, output: &mut Output) -> Result<u8, Trouble> {
     let sight = given.option("--sight", |text| WHOLE.read(text))?;
     let eye = given.number("--eye", HEIGHT, EYE_HEIGHT)?;
     let object = given.number("--object", HEIGHT, OBJECT_HEIGHT)?;
-    let refused = Trouble::refused("vcp crest");
-    let sight = match sight {
-        Some(sight) => sight,
-        None => vcp::required_distance(speed, purpose::STOPPING, LEVEL).map_err(&refused)?,
-    };
-    print(output, vcp::crest_length(speed, drop, sight, eye, object).map_err(&refused)?)
+    let length = sight_or_stopping(sight, speed).and_then(|sight| vcp::crest_length(speed, drop, sight, eye, object));
+    print(output, length.map_err(Trouble::refused("vcp crest"))?)
+}
+
+/// `vcp sag`.
+pub fn sag(given: &Given, output: &mut Output) -> Result<u8, Trouble> {
+    let speed = given.needed("--speed", |text| WHOLE.read(text))?;
+    let rise = given.needed("--rise", |text| GRADE.read(text))?;
+    let sight = given.option("--sight", |text| WHOLE.read(text))?;
+    let length = sight_or_stopping(sight, speed).and_then(|sight| exports::sag_length(speed, rise, sight));
+    print(output, length.map_err(Trouble::refused("vcp sag"))?)
 }

@@ -61,9 +61,10 @@ const TO: Choice = choice("--to", "M", "the last station (the road's end)");
 const EYE: Choice = choice("--eye", "M", "height of the eye above the road, in m (1.08)");
 const OBJECT: Choice = choice("--object", "M", "height of the object, in m (0.60)");
 const SPEED: Choice = needed("--speed", "KMH", "the speed in km/h");
+const SIGHT: Choice = choice("--sight", "M", "the sight distance (the stopping distance)");
 const GRADE: Choice = choice("--grade", "PERCENT", "the road's grade, uphill positive, as -6.00 (0.00)");
 
-pub const COMMANDS: [Command; 10] = [
+pub const COMMANDS: [Command; 11] = [
     Command {
         name: "list",
         prints: "the listing of road files, for programs",
@@ -189,11 +190,24 @@ falls give --sight, with what 'vcp distance' prints for --grade.",
         operands: Operands { names: &[], more: false },
         options: &[
             SPEED,
-            needed("--drop", "PERCENT", "how much the grade falls, as 6.00"),
-            choice("--sight", "M", "the sight distance (the stopping distance)"),
+            needed("--drop", "PERCENT", "grade in less grade out, as 6.00 from 4 % to -2 %"),
+            SIGHT,
             EYE,
             OBJECT,
         ],
         run: answers::crest,
+    },
+    Command {
+        name: "sag",
+        prints: "the least length of a sag in m",
+        details: "\
+The least even length in which headlights reach the sight distance at night, by
+AASHTO's headlight rule, and which is at least 0.6 m for each km/h of the speed.
+Without --sight the sight distance is the stopping distance of that speed on the
+level. For a road that falls give --sight, with what 'vcp distance' prints for
+--grade.",
+        operands: Operands { names: &[], more: false },
+        options: &[SPEED, needed("--rise", "PERCENT", "grade out less grade in, as 6.00 from -2 % to 4 %"), SIGHT],
+        run: answers::sag,
     },
 ];

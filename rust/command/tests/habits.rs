@@ -24,9 +24,14 @@ const CHECK: &[&str] = &["check", "--speed", "90", "--purpose", "1"];
 const ROAD: &[&str] = &["road"];
 
 /// The commands that read nothing.
-const NUMBERS: [&[&str]; 2] = [&["distance", "80", "stopping"], &["crest", "--speed", "80", "--drop", "6.00"]];
+const NUMBERS: [&[&str]; 3] = [
+    &["distance", "80", "stopping"],
+    &["crest", "--speed", "80", "--drop", "6.00"],
+    &["sag", "--speed", "80", "--rise", "6.00"],
+];
 
-const NAMES: [&str; 10] = ["list", "report", "heights", "sight", "check", "plot", "road", "text", "distance", "crest"];
+const NAMES: [&str; 11] =
+    ["list", "report", "heights", "sight", "check", "plot", "road", "text", "distance", "crest", "sag"];
 
 /// A command on a file.
 fn on<'a>(command: &[&'a str], file: &'a str) -> Vec<&'a str> {
@@ -297,9 +302,18 @@ fn help_is_true() {
     for name in ["list", "report", "plot"] {
         assert!(words(name).contains("the least of the road's grades, or 0 if none is negative"), "{name}");
     }
-    assert!(words("crest").contains("the stopping distance of that speed on the level."));
-    assert!(words("crest").contains("at least 0.6 m for each km/h of the speed."));
-    common::expect(&folder, &["crest", "--speed", "100", "--drop", "0.01"], "60\n");
+    for (name, change, meaning) in [
+        ("crest", "--drop", "grade in less grade out, as 6.00 from 4 % to -2 %"),
+        ("sag", "--rise", "grade out less grade in, as 6.00 from -2 % to 4 %"),
+    ] {
+        assert!(words(name).contains(&format!("Prints the least length of a {name} in m.")), "{name}");
+        assert!(row(name, change).ends_with(meaning), "{name}");
+        assert!(row(name, "--sight").ends_with("(the stopping distance)"), "{name}");
+        assert!(words(name).contains("a road that falls give --sight, with what 'vcp distance' prints for --grade."));
+        assert!(words(name).contains("the stopping distance of that speed on the level."), "{name}");
+        assert!(words(name).contains("at least 0.6 m for each km/h of the speed."), "{name}");
+        common::expect(&folder, &[name, "--speed", "100", change, "0.01"], "60\n");
+    }
     let letters = ["S  stopping sight is lacking", "D  decision sight is lacking", "s  stopping is not judged"];
     for line in letters.into_iter().chain(["R  reduced decision zone", "d  the decision is not judged"]) {
         assert!(help("list").contains(&format!("\n  {line}")), "{line}");
@@ -313,7 +327,8 @@ fn help_is_true() {
 #[test]
 fn unknown_commands() {
     let folder = folder("habits_unknown");
-    let names = "commands: list, report, heights, sight, check, plot, road, text, distance, crest; see vcp --help\n";
+    let names =
+        "commands: list, report, heights, sight, check, plot, road, text, distance, crest, sag; see vcp --help\n";
     expect_error(&folder, &[], 2, &format!("vcp: a command is missing\n{names}"));
     for word in ["lists", "LIST", "--list", "", "-"] {
         expect_error(&folder, &[word], 2, &format!("vcp: there is no command {word:?}\n{names}"));

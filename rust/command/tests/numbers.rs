@@ -1,12 +1,16 @@
-//! `vcp distance` and `vcp crest`, against the second calculation.
+//! `vcp distance`, `vcp crest` and `vcp sag`, against the second calculation.
 
 mod common;
+
+use std::fs;
 
 use common::{expect, expect_error, expect_wrong, folder, root, run};
 use sight_tests::random::Random;
 use sight_tests::reference::crest::{crest_length, Crest};
 use sight_tests::reference::distances::required_distance;
+use sight_tests::reference::sag::{sag_length, Sag};
 use sight_tests::reference::Answer;
+use sight_tests::tally::Tally;
 
 /// The number that a command prints, or that of its refusal.
 fn answer(arguments: &[&str]) -> Answer {
@@ -162,12 +166,21 @@ fn decimal(number: u32, unit: u32, digits: usize) -> String {
     format!("{}.{:0digits$}", number / unit, number % unit)
 }
 
+/// What a command answers for its options, whichever comes first, which is what is expected.
+fn compare(random: &mut Random, command: &str, mut options: Vec<[&str; 2]>, expected: Answer) -> Answer {
+    let first = random.within(1..=options.len() as u32);
+    options.rotate_left(first as usize - 1);
+    let arguments = [&[command][..], &options.concat()].concat();
+    assert_eq!(answer(&arguments), expected, "{arguments:?}");
+    expected
+}
+
 /// With a sight distance, and without one, for which the stopping distance of the speed is taken: where the speed is refused
 /// there is none, and none is needed.
 #[test]
 fn random_crests() {
     let mut random = Random::new(88);
-    let (mut lengths, mut refused) = (0, [0; 19]);
+    let mut tally = Tally::default();
     for round in 0..600 {
         let mut crest = Crest {
             speed: if random.once_in(20) { random.one_of(&[0, 19, 131, 9_999]) } else { random.within(20..=130) },
@@ -187,17 +200,10 @@ fn random_crests() {
         if !stopping {
             options.push(["--sight", &sight]);
         }
-        options.rotate_left(random.within(0..=3) as usize);
-        let arguments = [&["crest"][..], &options.concat()].concat();
-        let expected = crest_length(crest);
-        assert_eq!(answer(&arguments), expected, "{arguments:?}");
-        match expected {
-            Ok(_) => lengths += 1,
-            Err(number) => refused[number as usize] += 1,
-        }
+        tally.count(compare(&mut random, "crest", options, crest_length(crest)));
     }
-    let each = [6, 15, 16, 17, 18].iter().all(|&number| refused[number] > 5);
-    assert!(lengths > 100 && each, "{lengths}, {refused:?}");
+    assert!(tally.numbers() > 100, "{} numbers", tally.numbers());
+    assert!([6, 15, 16, 17, 18].iter().all(|&number| tally.refused(number) > 5));
 }
 
 /// Without a sight distance it is the stopping distance of the speed on the level; eye and object are those of roads.
@@ -227,7 +233,7 @@ fn lines_of_a_crest() {
     expect(&folder, &["crest", "--speed=80", "--drop=6"], "156\n");
     expect(&folder, &["crest", "--drop", "6.00", "--sight", "130", "--speed", "80"], "156\n");
     expect(&folder, &["crest", "--speed", "80", "--drop", "3.00"], "48\n");
-    let refused = "vcp crest: refused 18: no even crest length up to 2,000 m is adequate\n";
+    let refused = "vcp crest: refused 18: no even length up to 2,000 m is adequate\n";
     expect_error(&folder, &["crest", "--speed", "80", "--drop", "30", "--sight", "800"], 1, refused);
     let refused = "vcp crest: refused 6: the speed is not 20 to 130 km/h\n";
     expect_error(&folder, &["crest", "--speed", "131", "--drop", "6"], 1, refused);
@@ -247,4 +253,92 @@ fn lines_of_a_crest() {
     }
     expect_wrong(&folder, &["crest", "--speed", "80", "--drop", "6", "--sight", "x"], "--sight: \"x\" is no number");
     expect_wrong(&folder, &["crest", "6", "--speed", "80"], "\"6\" is one argument too many");
+}
+
+/// With a sight distance, and without one, as for a crest.
+#[test]
+fn random_sags() {
+    let mut random = Random::new(93);
+    let mut tally = Tally::default();
+    for round in 0..600 {
+        let mut sag = Sag {
+            speed: if random.once_in(20) { random.one_of(&[0, 19, 131, 9_999]) } else { random.within(20..=130) },
+            rise: if random.once_in(20) { random.one_of(&[0, 3_001, 9_999]) } else { random.of_any_size(3_000) },
+            sight: if random.once_in(20) { random.one_of(&[0, 801, 5_000]) } else { random.within(1..=800) },
+        };
+        let stopping = round % 4 == 0;
+        if stopping {
+            sag.sight = required_distance(sag.speed, 0, 0).unwrap_or(1);
+        }
+        let rise = decimal(sag.rise, 100, 2);
+        let [speed, sight] = [sag.speed, sag.sight].map(|number| number.to_string());
+        let mut options = vec![["--speed", &speed], ["--rise", &rise]];
+        if !stopping {
+            options.push(["--sight", &sight]);
+        }
+        tally.count(compare(&mut random, "sag", options, sag_length(sag)));
+    }
+    assert!(tally.numbers() > 100, "{} numbers", tally.numbers());
+    assert!([6, 15, 16, 18].iter().all(|&number| tally.refused(number) > 5));
+}
+
+/// The rules' cases, and what is missing or too much.
+#[test]
+fn lines_of_a_sag() {
+    let folder = folder("sag_lines");
+    expect(&folder, &["sag", "--speed", "80", "--rise", "6.00"], "178\n");
+    expect(&folder, &["sag", "--speed=80", "--rise=6"], "178\n");
+    expect(&folder, &["sag", "--rise", "6.00", "--sight", "130", "--speed", "80"], "178\n");
+    expect(&folder, &["sag", "--speed", "80", "--rise", "3.00", "--sight", "130"], "70\n");
+    expect(&folder, &["sag", "--speed", "80", "--rise", "2.21"], "48\n");
+    let refused = "vcp sag: refused 18: no even length up to 2,000 m is adequate\n";
+    expect_error(&folder, &["sag", "--speed", "80", "--rise", "30", "--sight", "800"], 1, refused);
+    let refused = "vcp sag: refused 6: the speed is not 20 to 130 km/h\n";
+    for speed in ["19", "131", "4294967376"] {
+        expect_error(&folder, &["sag", "--speed", speed, "--rise", "6"], 1, refused);
+        expect_error(&folder, &["sag", "--speed", speed, "--rise", "0", "--sight", "0"], 1, refused);
+    }
+    let change = "the drop or rise in grade is not 1 to 3,000 hundredths of a percent (0.01 to 30 %)";
+    for rise in ["0", "30.01", "42949672.97"] {
+        let refused = format!("vcp sag: refused 15: {change}\n");
+        expect_error(&folder, &["sag", "--speed", "80", "--rise", rise, "--sight", "0"], 1, &refused);
+        let refused = format!("vcp crest: refused 15: {change}\n");
+        expect_error(&folder, &["crest", "--speed", "80", "--drop", rise, "--sight", "0"], 1, &refused);
+    }
+    let refused = "vcp sag: refused 16: the sight distance is not 1 to 800 m\n";
+    for sight in ["0", "801", "4294967426", "99999999999999999999"] {
+        expect_error(&folder, &["sag", "--speed", "80", "--rise", "6", "--sight", sight], 1, refused);
+    }
+    expect_wrong(&folder, &["sag", "--rise", "6", "--sight", "130"], "--speed is missing");
+    expect_wrong(&folder, &["sag", "--speed", "80", "--sight", "130"], "--rise is missing");
+    for (option, reason) in
+        [("--rise=6.001", "--rise: \"6.001\" has more than 2 decimals"), ("--rise=-6", "--rise: \"-6\" is negative")]
+    {
+        expect_wrong(&folder, &["sag", "--speed", "80", option], reason);
+    }
+    expect_wrong(&folder, &["sag", "--speed=80.5", "--rise", "6"], "--speed: \"80.5\" is not whole");
+    expect_wrong(&folder, &["sag", "--speed", "80", "--rise", "6", "--sight", "x"], "--sight: \"x\" is no number");
+    for option in ["--drop", "--eye", "--object", "--grade"] {
+        let reason = format!("there is no option {option}");
+        expect_wrong(&folder, &["sag", "--speed", "80", "--rise", "6", option, "1"], &reason);
+    }
+    expect_wrong(&folder, &["crest", "--speed", "80", "--drop", "6", "--rise", "6"], "there is no option --rise");
+    expect_wrong(&folder, &["sag", "6", "--speed", "80"], "\"6\" is one argument too many");
+}
+
+/// The README's rows of these commands: the call between backquotes, and behind the first colon with a number what it prints.
+#[test]
+fn calls_of_the_readme() {
+    let readme = fs::read_to_string(root().join("README.md")).expect("the README is text");
+    let mut found = Vec::new();
+    for row in readme.lines().filter_map(|line| line.strip_prefix("| `vcp ")) {
+        let (call, rest) = row.split_once('`').expect("a call ends with a backquote");
+        let arguments: Vec<&str> = call.split(' ').collect();
+        if ["distance", "crest", "sag"].contains(&arguments[0]) {
+            let shown = rest.split(": ").find_map(|part| part.split([';', ' ']).next()?.parse().ok());
+            assert_eq!(answer(&arguments).ok(), shown, "{call}");
+            found.push(arguments[0]);
+        }
+    }
+    assert_eq!(found, ["distance", "crest", "sag"]);
 }

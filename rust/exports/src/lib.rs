@@ -1,5 +1,5 @@
 //! The proved operations that the van does not call, safe to call from the command `vcp` and from the tests: the functions
-//! of the crates `sight_exports`, `marks_exports`, `file_exports` and `listing_exports`.
+//! of the crates `curve_exports`, `sight_exports`, `marks_exports`, `file_exports` and `listing_exports`.
 //!
 //! Units are those of docs/RULES.md: metres along the road, h-units (tenths of a millimetre) for heights, hundredths of a
 //! percent for grades, uphill positive, and km/h.
@@ -40,6 +40,7 @@ pub const OBJECT_HEIGHT: u32 = 6_000;
 
 // A test compares these declarations with the crates' src/lib.rt.
 extern "C" {
+    fn vcp_sag_length(speed: u32, rise: u32, sight: u32) -> i64;
     fn vcp_sight(heights: *const i32, heights_length: usize, station: u32, eye: u32, object: u32, farthest: u32)
         -> i64;
     fn vcp_sight_profile(
@@ -65,6 +66,17 @@ extern "C" {
     fn vcp_file_heights(file: *const u8, file_length: usize, list: *mut i32, list_length: usize) -> i64;
     fn vcp_file_downgrade(file: *const u8, file_length: usize) -> i64;
     fn vcp_list_road_file(file: *const u8, file_length: usize, text: *mut u8, text_length: usize) -> i64;
+}
+
+/// The least even length in metres of a sag in which headlights reach a sight distance in metres, and which is at least 0.6 V
+/// metres for the speed V in km/h. The rise in grade is in hundredths of a percent.
+///
+/// # Errors
+/// Refused 6 if the speed is not 20 to 130, then 15 if the rise is not 1 to 3,000, then 16 if the sight distance is not 1 to
+/// 800, then 18 if the headlights reach so far in no even length up to 2,000 m: 0.6 V, which is at most 78 m, never causes that.
+pub fn sag_length(speed: u32, rise: u32, sight: u32) -> Result<u32, Refusal> {
+    // SAFETY: it takes any three numbers and touches no memory of the caller.
+    refusal::answer(unsafe { vcp_sag_length(speed, rise, sight) })
 }
 
 /// The heights of eye and object above the road, and the farthest distance that is looked at.

@@ -34,10 +34,10 @@ const REASONS: [&str; 23] = [
     "a curve begins before station 0 or ends after the road",
     "a curve begins before the end of the curve listed just before it",
     "a lent list or buffer is too short",
-    "the drop in grade is not 1 to 3,000 hundredths of a percent (0.01 to 30 %)",
+    "the drop or rise in grade is not 1 to 3,000 hundredths of a percent (0.01 to 30 %)",
     "the sight distance is not 1 to 800 m",
     "the height of eye or object is not 1 to 50,000 h-units (0.0001 to 5 m)",
-    "no even crest length up to 2,000 m is adequate",
+    "no even length up to 2,000 m is adequate",
     "the list of heights or marks is empty or longer than 8,001",
     "the station is beyond the last",
     "the farthest distance is not 1 to 8,000 m",
@@ -109,7 +109,7 @@ mod tests {
     #[test]
     fn words_come_with_the_number() {
         let refusal = Refusal { number: 18 };
-        assert_eq!(refusal.to_string(), "refused 18: no even crest length up to 2,000 m is adequate");
+        assert_eq!(refusal.to_string(), "refused 18: no even length up to 2,000 m is adequate");
         let error: Box<dyn Error + Send + Sync> = refusal.into();
         assert_eq!(error.to_string(), refusal.to_string());
     }

@@ -1,5 +1,6 @@
 //! docs/RULES.md, "How long a crest must be".
 
+use super::lengths::{least_even, least_length};
 use super::Answer;
 
 /// A speed in km/h, a drop in grade in hundredths of a percent, a sight distance in metres, and heights of eye and object in
@@ -31,22 +32,12 @@ fn adequate(crest: Crest, length: u32) -> bool {
     }
 }
 
-/// The lengths that may be answered.
-fn even_lengths() -> impl Iterator<Item = u32> {
-    (0..=2_000).step_by(2)
-}
-
-/// The least of them that is adequate, whatever the speed is.
+/// The least even adequate length, whatever the speed is.
 pub fn least_adequate(crest: Crest) -> Option<u32> {
-    even_lengths().find(|&length| adequate(crest, length))
+    least_even(|length| adequate(crest, length))
 }
 
-/// The length is at least 0.6 V metres, here in tenths of a metre.
-fn at_least_minimum(speed: u32, length: u32) -> bool {
-    10 * u64::from(length) >= 6 * u64::from(speed)
-}
-
-/// The least even length from 0 to 2,000 that is adequate and at least 0.6 V; refused 18 where no even length is adequate.
+/// Refused 6, 15, 16, 17 and 18, in that order; else the least length.
 pub fn crest_length(crest: Crest) -> Answer {
     if !(20..=130).contains(&crest.speed) {
         return Err(6);
@@ -60,9 +51,5 @@ pub fn crest_length(crest: Crest) -> Answer {
     if !(1..=50_000).contains(&crest.eye) || !(1..=50_000).contains(&crest.object) {
         return Err(17);
     }
-    if least_adequate(crest).is_none() {
-        return Err(18);
-    }
-    let least = even_lengths().find(|&length| at_least_minimum(crest.speed, length) && adequate(crest, length));
-    Ok(least.expect("where a length is adequate, one of those from 0.6 V on is"))
+    least_length(crest.speed, |length| adequate(crest, length))
 }

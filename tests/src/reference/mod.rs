@@ -5,9 +5,11 @@ pub mod crest;
 pub mod distances;
 pub mod file;
 pub mod fraction;
+pub mod lengths;
 pub mod listing;
 pub mod marks;
 pub mod road;
+pub mod sag;
 pub mod sight;
 
 /// The value, or the number of the refusal.
