@@ -64,8 +64,8 @@ pub record StarredCases : Type 0 where
       × (leastAdequate 300 130 ≡ Number 42)
       × (leastAdequate 253 130 ≡ Number 0)
       × (leastAdequate 254 130 ≡ Number 2)
-  -- How long a sag must be: longer than the sight distance, shorter than it, and by the minimum for the speed, below which the least
-  -- adequate lengths of the last two lie
+  -- How long a sag must be: longer than the sight distance, shorter than it, and by the minimum for the speed; then two least adequate
+  -- lengths, which lie below the minimum
   pub sags :
       (sagLength 80 600 130 ≡ Number 178)
       × (sagLength 80 300 130 ≡ Number 70)

@@ -34,8 +34,8 @@ adequate a s u w l =
 abbrev pub crestAdequate : ℕ → ℕ → ℕ → ℕ → ℕ → Bool
 crestAdequate a s e o = adequate a s (2 * (e + o)) (16 * e * o)
 
--- the length L of a sag is adequate under headlights: AASHTO has 200 (0.60 + S tan 1°) = 120 + 3.5 S for a rise in percent, so for
--- hundredths of one Q = 12,000 + 350 S
+-- the length L of a sag is adequate under headlights: AASHTO rounds 200 (0.60 + S tan 1°) to 120 + 3.5 S, for a rise in percent, so for
+-- one in hundredths of a percent Q = 12,000 + 350 S
 abbrev pub sagAdequate : ℕ → ℕ → ℕ → Bool
 sagAdequate a s = adequate a s (12000 + 350 * s) 0
 
@@ -52,7 +52,7 @@ unfoldable pub leastEven : (ℕ → Bool) → ℕ → ℕ → Answer
 leastEven test l zero = Refused noLengthRefused
 leastEven test l (suc n) = cond (test l) (Number l) (leastEven test (l + 2) n)
 
--- the least even length from 0 to 2,000 that passes the test
+-- the least even length from 0 to 2,000 that passes the test; refused 18 where none does
 abbrev pub leastLength : (ℕ → Bool) → Answer
 leastLength test = leastEven test 0 (greatestAnsweredLength / 2 + 1)
 
@@ -71,6 +71,7 @@ crestLength v a s e o =
     (refuse (eyeOrObjectOutside e o) heightRefused
     (leastLength (longEnough v (crestAdequate a s e o))))
 
--- the sag length of a speed V, a rise a and a sight distance S: refused 6, 15, 16, then 18; else as for a crest
+-- the sag length of a speed V, a rise a and a sight distance S: refused 6, 15, 16, then 18; else the least even length from 0 to 2,000
+-- that is adequate and reaches the minimum
 unfoldable pub sagLength : ℕ → ℕ → ℕ → Answer
 sagLength v a s = unless (lengthVerdict v a s) (leastLength (longEnough v (sagAdequate a s)))
