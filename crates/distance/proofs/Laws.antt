@@ -1,14 +1,17 @@
--- Laws of the required distance: what rounding up to 5 m is, what the distance on a grade is, and how large the numbers are.
-use mathlib.Core.Path.{_≡_, ap}
+-- Laws of the required distance: what rounding up to 5 m is, what stands in the sheet of level distances, what the distance on a grade is,
+-- and how large the numbers are.
+use mathlib.Core.Path.{_≡_, ap, _∙_}
 use mathlib.Core.Bool.{Bool, true, false, not, cond, _&&_}
+use mathlib.Core.List.{List, []}
 use Prim.Native.Nat.{ℕ, _+_, _*_, _-_, _≤_, _<_, zero-le}
 use native.Mathlib.Nat.{le-refl, mul-le-mul, div-mul-le-self, lt-div-mul-add, div-eq-of-lt-le, lt-of-mul-lt-mul-right}
 use native.Mathlib.Omega.{arith}
 use lib.Dec.{T, ltb, eqb}
 use lib.IntN.{ℤ, pos, natAbs, _+ℤ_, _*ℤ_}
+use lib.ListN.{getD}
 use lib.Signed.{nonNeg}
 use Rattle.whole.proofs.Int.{var, nat, add, neg, mul, le-to, natural-is}
-use Rattle.whole.proofs.Table.{each-at}
+use Rattle.whole.proofs.Table.{each-at, tabulated, tabulated-at}
 use Rattle.terms.specs.Answers.{outside, gradeOutside}
 use Rattle.terms.specs.Limits.{leastSpeed, greatestSpeed, stoppingPurpose, lastPurpose, greatestGrade}
 use Rattle.terms.proofs.Laws.{AtMost, GradeIn, value-at-most, refuse-at-most, inside, grade-inside}
@@ -32,6 +35,23 @@ pub up-to-five-exact : (k den : ℕ) → 0 < den → upToFive (5 * k * den) den 
 unfolding upToFive
 up-to-five-exact k den l = ap (λ (n : ℕ). 5 * n) (div-eq-of-lt-le (5 * den) (omega arith) (omega arith))
 
+-- ---- the sheet of level distances
+-- a purpose's row by the formula: a number for each speed
+abbrev sheetRow : ℕ → List ℕ
+sheetRow p = tabulated (λ (k : ℕ). levelMetres (leastSpeed + k) (purposeRow p)) (greatestSpeed - leastSpeed + 1)
+
+-- the sheet by the formula, a row for each purpose: what the code's table has to be
+abbrev pub sheet : List (List ℕ)
+sheet = tabulated sheetRow (lastPurpose + 1)
+
+-- read at a speed and a purpose it has the level distance
+pub sheet-at : (v p : ℕ) → leastSpeed ≤ v → v ≤ greatestSpeed → p ≤ lastPurpose →
+    getD (getD sheet p []) (v - leastSpeed) 0 ≡ levelMetres v (purposeRow p)
+sheet-at v p low high last =
+    let back : leastSpeed + (v - leastSpeed) ≡ v = omega arith in
+    rw (tabulated-at sheetRow (lastPurpose + 1) p [] (omega arith))
+    (tabulated-at _ _ (v - leastSpeed) 0 (omega arith) ∙ ap (λ (v : ℕ). levelMetres v (purposeRow p)) back)
+
 -- ---- on a grade
 -- the parts over 635,000 b are 278 V t / 10,000 + 9,810,000 V² / (254 b): equation (2) with its own numbers
 pub graded-parts-is : (v : ℕ) (p : Purpose) (b : ℕ) →
@@ -48,7 +68,7 @@ cond-at-most true h l = h
 cond-at-most false h l = l
 
 -- on a level road at most 718 m
-pub level-parts-small : (v : ℕ) (p : Purpose) → v ≤ greatestSpeed → p .reaction ≤ 145 → levelParts v p ≤ 122040100
+level-parts-small : (v : ℕ) (p : Purpose) → v ≤ greatestSpeed → p .reaction ≤ 145 → levelParts v p ≤ 122040100
 unfolding levelParts
 level-parts-small v p h k =
     let r = mul-le-mul h k in

@@ -1,11 +1,13 @@
 // docs/RULES.md, "Distances a driver needs": the required sight distance.
 ghost use mathlib.Core.Path.{_≡_};
-ghost use Prim.Native.Nat.{_<_, _≤_, _*_};
+ghost use Prim.Native.Nat.{_<_, _≤_};
 ghost use mathlib.Core.Bool.{false};
 ghost use Rattle.terms.specs.Answers.{gradeOutside};
-ghost use Rattle.terms.specs.Limits.{greatestSpeed};
-ghost use Rattle.distance.specs.Distance.{requiredDistance, distancesFor, metresFor, levelMetres, gradedMetres, levelParts, decelerationParts, upToFive};
+ghost use Rattle.terms.specs.Limits.{leastSpeed, greatestSpeed, lastPurpose};
+ghost use Rattle.distance.specs.Distance.{requiredDistance, distancesFor, metresFor, levelMetres, gradedMetres, purposeRow, decelerationParts, upToFive};
 use terms::Answer;
+
+mod sheet;
 
 // A purpose's reaction time in tenths of a second, and whether the braking term counts.
 pub struct Purpose {
@@ -47,21 +49,6 @@ const PURPOSES: [Purpose; 6] = [
     },
 ];
 
-// One metre of the level distance, in the parts that `level_parts` counts.
-const METRE_PARTS: u64 = 170000;
-
-// The distance on a level road before rounding: 0.278 V T + 0.039 V² / 3.4 metres, in parts of which 170,000 make one.
-fn level_parts(speed: u64, row: Purpose) -> u64
-    requires { ⌜ (speed ≤ greatestSpeed) × (row .reaction ≤ 145) ⌝ }
-    ensures { λ r. ⌜ r ≡ levelParts speed row ⌝ }
-{
-    let reacting = 4726 * speed * row.reaction;
-    if row.braking {
-        return reacting + 1950 * speed * speed;
-    }
-    reacting
-}
-
 // `num / den` metres, rounded up to a multiple of 5 m.
 fn up_to_five(num: u64, den: u64) -> u64
     requires { ⌜ (0 < den) × (num < 1000000000000000000) × (den < 1000000000000000000) ⌝ }
@@ -71,12 +58,13 @@ fn up_to_five(num: u64, den: u64) -> u64
     5 * ((num + (five - 1)) / five)
 }
 
-// The distance on a level road, in metres.
-fn level_metres(speed: u64, row: Purpose) -> u64
-    requires { ⌜ (speed ≤ greatestSpeed) × (row .reaction ≤ 145) ⌝ }
-    ensures { λ r. ⌜ r ≡ levelMetres speed row ⌝ }
+// The distance on a level road, in metres, off the sheet.
+fn level_metres(speed: u64, purpose: usize) -> u16
+    requires { ⌜ (leastSpeed ≤ speed) × (speed ≤ greatestSpeed) × (purpose ≤ lastPurpose) ⌝ }
+    ensures { λ r. ⌜ r ≡ levelMetres speed (purposeRow purpose) ⌝ }
 {
-    up_to_five(level_parts(speed, row), METRE_PARTS)
+    let at = (speed - terms::LEAST_SPEED as u64) as usize;
+    sheet::LEVEL_METRES[purpose][at]
 }
 
 // 3.4 / 9.81 + G, G being the grade as a fraction, in parts of which 9,810,000 make one.
@@ -97,15 +85,16 @@ fn graded_metres(speed: u64, row: Purpose, grade: i32) -> u64
     up_to_five(parts, 635000 * b)
 }
 
-// The distance for a row of the table: the grade counts where braking does, and grade 0 keeps the level formula.
-fn metres_for(speed: u64, row: Purpose, grade: i32) -> u64
-    requires { ⌜ (speed ≤ greatestSpeed) × (row .reaction ≤ 145) × (gradeOutside grade ≡ false) ⌝ }
-    ensures { λ r. ⌜ r ≡ metresFor speed row grade ⌝ }
+// The distance for a purpose: worked out where braking meets a grade, else read off the sheet.
+fn metres_for(speed: u64, purpose: usize, grade: i32) -> u64
+    requires { ⌜ (leastSpeed ≤ speed) × (speed ≤ greatestSpeed) × (purpose ≤ lastPurpose) × (gradeOutside grade ≡ false) ⌝ }
+    ensures { λ r. ⌜ r ≡ metresFor speed (purposeRow purpose) grade ⌝ }
 {
+    let row = PURPOSES[purpose];
     if row.braking & (grade != 0) {
         return graded_metres(speed, row, grade);
     }
-    level_metres(speed, row)
+    level_metres(speed, purpose) as u64
 }
 
 // The distance that a driver at `speed` km/h needs for a purpose, 0 stopping, 1 to 5 decision A to E, on a grade in hundredths of a
@@ -122,8 +111,7 @@ pub fn required_distance(speed: u32, purpose: u32, grade: i32) -> Answer
     if terms::grade_outside(grade) {
         return Answer::Refused(terms::GRADE_REFUSED);
     }
-    let at = purpose as usize;
-    Answer::Number(metres_for(speed as u64, PURPOSES[at], grade) as u32)
+    Answer::Number(metres_for(speed as u64, purpose as usize, grade) as u32)
 }
 
 // The distance to stop and the one to decide on a grade; 0 where it is refused.

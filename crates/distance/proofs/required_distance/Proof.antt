@@ -44,12 +44,6 @@ returns-3 c =
       grade-tested (c .before) ∙ c .if3 .taken,
     )
 
-mul-metres-for : tie.Need-mul-metres-for
-mul-metres-for c = search needs
-
-array-copy-out-metres-for : tie.Need-array-copy-out-metres-for
-array-copy-out-metres-for c = search needs
-
 -- past all tests the speed and the grade are in their ranges
 module _ (c : tie.Else3) where
   abbrev start : tie.Start
@@ -67,33 +61,31 @@ module _ (c : tie.Else3) where
   grade-passed : gradeOutside (start .args .grade) ≡ false
   grade-passed = grade-tested (c .before) ∙ c .if3 .left
 
-  speed-small : start .args .speed ≤ greatestSpeed
-  speed-small = not-outside-in leastSpeed greatestSpeed (start .args .speed) speed-passed .1
-
-  reaction-in-row : row .reaction ≤ 145
-  reaction-in-row = reaction-small (start .args .purpose)
+  speed-in : (leastSpeed ≤ start .args .speed) × (start .args .speed ≤ greatestSpeed)
+  speed-in = not-outside-in leastSpeed greatestSpeed (start .args .speed) speed-passed
 
   asked-small : asked ≤ 870
-  asked-small = metres-at-most (start .args .speed) row (start .args .grade) speed-small reaction-in-row (grade-in _ grade-passed)
+  asked-small =
+      let reaction = reaction-small (start .args .purpose) in
+      metres-at-most (start .args .speed) row (start .args .grade) (speed-in .1) reaction (grade-in _ grade-passed)
 
 metres-for-requires : tie.Need-metres-for-requires
 metres-for-requires c κs =
-    let past = c .before in
-    (speed-small past, reaction-in-row past, rw (plain (start past .fits .grade)) (grade-passed past))
+    (speed-in c .0, speed-in c .1, c .before .before .if2 .left, rw (plain (start c .fits .grade)) (grade-passed c))
 
 -- the metres are what is asked for
-metres-are : (c : tie.After-metres-for) → c .metres-for .result ≡ asked (c .before .before)
+metres-are : (c : tie.After-metres-for) → c .metres-for .result ≡ asked (c .before)
 metres-are c =
-    let past = c .before .before in let s = start past in
+    let past = c .before in let s = start past in
     c .metres-for .ensures ∙ ap (metresFor (s .args .speed) (row past)) (plain (s .fits .grade))
 
-cast-t21 : tie.Need-cast-t21
-cast-t21 c = record { fits = omega (arith, metres-are c, asked-small (c .before .before)) }
+cast-t10 : tie.Need-cast-t10
+cast-t10 c = record { fits = omega (arith, metres-are c, asked-small (c .before)) }
 
 returns-4 : tie.Need-returns-4
 unfolding requiredDistance
 returns-4 c =
-    let past = c .before .before in
+    let past = c .before in
     simp (speed-passed past, le-ltb _ _ (past .before .before .if2 .left), grade-passed past) (ap Number (metres-are c))
 
 pub required-distance-spec : {M : Type 1} → statement M
@@ -105,8 +97,6 @@ required-distance-spec =
     returns-2
     grade-outside-requires
     returns-3
-    mul-metres-for
-    array-copy-out-metres-for
     metres-for-requires
-    cast-t21
+    cast-t10
     returns-4)
