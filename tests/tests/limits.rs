@@ -28,6 +28,8 @@ fn limits_of_the_exports() {
     assert_eq!(exports::ROAD_STATIONS, number(TERMS, "GREATEST_ROAD") + 1);
     assert_eq!(exports::MARKED_STATIONS, marked_stations());
     assert_eq!(exports::GREATEST_FARTHEST as usize, number(TERMS, "GREATEST_FARTHEST"));
+    assert_eq!(exports::LEAST_SPEED as usize, number(TERMS, "LEAST_SPEED"));
+    assert_eq!(exports::GREATEST_SPEED as usize, number(TERMS, "GREATEST_SPEED"));
     assert_eq!(exports::EYE_HEIGHT as usize, number(TERMS, "EYE_HEIGHT"));
     assert_eq!(exports::OBJECT_HEIGHT as usize, number(TERMS, "OBJECT_HEIGHT"));
     assert_eq!(constant(LISTING, "MOST_ZONES"), "(terms::MARKED_STATIONS + 1) / 2");

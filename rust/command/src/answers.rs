@@ -18,7 +18,7 @@ use crate::{complain, input, purpose, report, tables};
 const MOST_FAULTS: usize = 20;
 
 /// The grade of a level road.
-const LEVEL: i32 = 0;
+pub const LEVEL: i32 = 0;
 
 /// Answers for each file in turn, and goes on after one that is refused or cannot be read. The status is the greatest.
 fn for_each_file(
@@ -50,7 +50,7 @@ fn for_each_file(
 /// Writes the one answer of a command, into the file that `-o` names or to standard output.
 pub fn write_answer(given: &Given, output: &mut Output, bytes: &[u8]) -> Result<u8, Trouble> {
     match given.output_file() {
-        Some(path) if output::is_input(path, given.file()) => {
+        Some(path) if given.files().any(|file| output::is_input(path, file)) => {
             return Err(Trouble::failed(format!("{}: it would replace what it is made from", shown(path))));
         }
         Some(path) if !output::is_standard(path) => {

@@ -11,18 +11,25 @@ use crate::commands::Command;
 use crate::input;
 use crate::trouble::{shown, Trouble};
 
-/// An option with its value: its name, what the value is called, what it means, and whether it must be there.
+/// An option: its name, what its value is called where it has one, what it means, and whether it must be there.
 pub struct Choice {
     pub name: &'static str,
-    pub value: &'static str,
+    pub value: Option<&'static str>,
     pub meaning: &'static str,
     pub needed: bool,
+}
+
+impl Choice {
+    /// Its name, with its value's where it has one.
+    pub fn call(&self) -> String {
+        self.value.map_or(self.name.to_string(), |value| format!("{} {value}", self.name))
+    }
 }
 
 /// The options and operands that a command was given.
 pub struct Given {
     command: &'static Command,
-    values: Vec<(&'static str, OsString)>,
+    values: Vec<(&'static str, Option<OsString>)>,
     operands: Vec<OsString>,
 }
 
@@ -97,7 +104,7 @@ impl Given {
         Ok(given)
     }
 
-    /// Takes an option with its value, which may be the next argument.
+    /// Takes an option. A value that it needs may be the next argument.
     fn take(&mut self, argument: &OsStr, others: &mut slice::Iter<OsString>) -> Result<(), Trouble> {
         let (name, value) = parts(argument);
         let Some(choice) = self.command.options.iter().find(|choice| name == choice.name) else {
@@ -107,10 +114,15 @@ impl Given {
             return Err(self.wrong(format!("{} stands twice", choice.name)));
         }
         let next = || others.next().map(OsString::as_os_str).filter(|next| !next.as_bytes().starts_with(b"--"));
-        let Some(value) = value.or_else(next) else {
-            return Err(self.wrong(format!("{} needs {}", choice.name, choice.value)));
+        let value = match choice.value {
+            Some(wanted) => {
+                let needs = || self.wrong(format!("{} needs {wanted}", choice.name));
+                Some(value.or_else(next).ok_or_else(needs)?.to_os_string())
+            }
+            None if value.is_some() => return Err(self.wrong(format!("{} takes no value", choice.name))),
+            None => None,
         };
-        self.values.push((choice.name, value.to_os_string()));
+        self.values.push((choice.name, value));
         Ok(())
     }
 
@@ -131,12 +143,12 @@ impl Given {
     }
 
     fn value(&self, name: &str) -> Option<&OsStr> {
-        self.values.iter().find(|(own, _)| *own == name).map(|(_, value)| value.as_os_str())
+        self.values.iter().find(|(own, _)| *own == name).and_then(|(_, value)| value.as_deref())
     }
 
     /// Whether an option is there.
     pub fn is_there(&self, name: &str) -> bool {
-        self.value(name).is_some()
+        self.values.iter().any(|(own, _)| *own == name)
     }
 
     /// The value of an option as it is read by a function.

@@ -3,6 +3,7 @@
 use crate::answers;
 use crate::arguments::{Choice, Given};
 use crate::output::Output;
+use crate::sheet;
 use crate::tables;
 use crate::trouble::Trouble;
 
@@ -34,9 +35,9 @@ impl Command {
 
     /// How it is called, with its options.
     pub fn usage(&self) -> String {
-        let options = self.options.iter().map(|Choice { name, value, needed, .. }| match needed {
-            true => format!(" {name} {value}"),
-            false => format!(" [{name} {value}]"),
+        let options = self.options.iter().map(|option| match option.needed {
+            true => format!(" {}", option.call()),
+            false => format!(" [{}]", option.call()),
         });
         format!("vcp {}{}", self.call(), options.collect::<String>())
     }
@@ -44,12 +45,17 @@ impl Command {
 
 /// An option that may be left out.
 const fn choice(name: &'static str, value: &'static str, meaning: &'static str) -> Choice {
-    Choice { name, value, meaning, needed: false }
+    Choice { name, value: Some(value), meaning, needed: false }
+}
+
+/// An option without a value.
+const fn flag(name: &'static str, meaning: &'static str) -> Choice {
+    Choice { name, value: None, meaning, needed: false }
 }
 
 /// An option that must be there.
 const fn needed(name: &'static str, value: &'static str, meaning: &'static str) -> Choice {
-    Choice { name, value, meaning, needed: true }
+    Choice { name, value: Some(value), meaning, needed: true }
 }
 
 const ONE_FILE: Operands = Operands { names: &["FILE"], more: false };
@@ -64,7 +70,7 @@ const SPEED: Choice = needed("--speed", "KMH", "the speed in km/h");
 const SIGHT: Choice = choice("--sight", "M", "the sight distance (the stopping distance)");
 const GRADE: Choice = choice("--grade", "PERCENT", "the road's grade, uphill positive, as -6.00 (0.00)");
 
-pub const COMMANDS: [Command; 11] = [
+pub const COMMANDS: [Command; 12] = [
     Command {
         name: "list",
         prints: "the listing of road files, for programs",
@@ -172,12 +178,26 @@ What cannot be read, and what is refused of the road, is said with its line.",
         name: "distance",
         prints: "the required distance in m",
         details: "\
-SPEED is in km/h. PURPOSE is a number or a name: 0 or stopping; 1 to 5, A to E
-or decision-A to decision-E. The decisions C to E need the same distance on
-every grade.",
+SPEED is in km/h. PURPOSE is a number or a name: 0, stop or stopping; 1 to 5, A
+to E or decision-A to decision-E. AASHTO's decisions are to stop, A on a rural
+and B on an urban road, or to change speed, path or direction, C on a rural, D
+on a suburban and E on an urban road. C to E need the same distance on every
+grade.",
         operands: Operands { names: &["SPEED", "PURPOSE"], more: false },
         options: &[GRADE],
         run: answers::distance,
+    },
+    Command {
+        name: "sheet",
+        prints: "all required distances on a level road in m",
+        details: "\
+A row for each speed from 20 to 130 km/h, in it the distance for stopping and
+for each decision. Those of the decisions C to E hold on every grade; for the
+others 'vcp distance' has --grade. With --svg it is a page of A4 to print at its
+actual size and laminate.",
+        operands: Operands { names: &[], more: false },
+        options: &[flag("--svg", "the page, as SVG"), OUTPUT],
+        run: sheet::sheet,
     },
     Command {
         name: "crest",

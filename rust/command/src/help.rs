@@ -48,7 +48,7 @@ written.
 
 /// The help for a command.
 pub fn of(command: &Command) -> String {
-    let options = rows(command.options.iter().map(|own| (format!("{} {}", own.name, own.value), own.meaning)));
+    let options = rows(command.options.iter().map(|own| (own.call(), own.meaning)));
     let options = if options.is_empty() { options } else { format!("\n{options}") };
     let usage = command.usage();
     format!("usage: {usage}\nPrints {}.\n\n{}\n{options}", command.prints, command.details)

@@ -5,6 +5,7 @@
 
 mod answers;
 mod arguments;
+mod columns;
 mod commands;
 mod help;
 mod input;
@@ -12,6 +13,7 @@ mod judgement;
 mod output;
 mod purpose;
 mod report;
+mod sheet;
 mod survey;
 mod tables;
 mod trouble;

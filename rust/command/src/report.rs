@@ -3,29 +3,13 @@
 use picture::MEANINGS;
 use roadtext::decimal;
 
+use crate::columns::{lined_up, Row};
 use crate::judgement::Judgement;
 use crate::purpose;
 
 /// The places of the zones where sight is lacking and where it is not judged, for stopping and for the decision.
 const STOPPING: [usize; 2] = [0, 3];
 const DECISION: [usize; 2] = [1, 4];
-
-type Row = Vec<String>;
-
-/// Rows as lines: the first column to the left, the others to the right, three spaces between.
-fn lined_up(rows: &[Row]) -> String {
-    let columns = rows.iter().map(Vec::len).max().unwrap_or(0);
-    let width = |column: usize| rows.iter().filter_map(|row| row.get(column)).map(String::len).max().unwrap_or(0);
-    let widths: Vec<usize> = (0..columns).map(width).collect();
-    let line = |row: &Row| {
-        let items = row.iter().zip(&widths).enumerate().map(|(column, (item, &width))| match column {
-            0 => format!("{item:<width$}"),
-            _ => format!("   {item:>width$}"),
-        });
-        items.collect::<String>().trim_end().to_string() + "\n"
-    };
-    rows.iter().map(line).collect()
-}
 
 fn row<const MANY: usize>(items: [&str; MANY]) -> Row {
     items.map(str::to_string).to_vec()

@@ -24,14 +24,15 @@ const CHECK: &[&str] = &["check", "--speed", "90", "--purpose", "1"];
 const ROAD: &[&str] = &["road"];
 
 /// The commands that read nothing.
-const NUMBERS: [&[&str]; 3] = [
+const NUMBERS: [&[&str]; 4] = [
     &["distance", "80", "stopping"],
+    &["sheet"],
     &["crest", "--speed", "80", "--drop", "6.00"],
     &["sag", "--speed", "80", "--rise", "6.00"],
 ];
 
-const NAMES: [&str; 11] =
-    ["list", "report", "heights", "sight", "check", "plot", "road", "text", "distance", "crest", "sag"];
+const NAMES: [&str; 12] =
+    ["list", "report", "heights", "sight", "check", "plot", "road", "text", "distance", "sheet", "crest", "sag"];
 
 /// A command on a file.
 fn on<'a>(command: &[&'a str], file: &'a str) -> Vec<&'a str> {
@@ -295,6 +296,11 @@ fn help_is_true() {
     }
     assert!(row("sight", "--farthest").ends_with(&format!("({})", exports::GREATEST_FARTHEST)));
     assert!(help("check").contains(&format!(" at most {} of them", exports::GREATEST_LIST)));
+    let speeds = format!("A row for each speed from {} to {} km/h", exports::LEAST_SPEED, exports::GREATEST_SPEED);
+    assert!(
+        help("sheet").contains(&speeds)
+            && help("sheet").contains("Prints all required distances on a level road in m.\n")
+    );
     for name in ["distance", "check"] {
         assert!(row(name, "--grade").ends_with("uphill positive, as -6.00 (0.00)"), "{name}");
     }
@@ -328,7 +334,7 @@ fn help_is_true() {
 fn unknown_commands() {
     let folder = folder("habits_unknown");
     let names =
-        "commands: list, report, heights, sight, check, plot, road, text, distance, crest, sag; see vcp --help\n";
+        "commands: list, report, heights, sight, check, plot, road, text, distance, sheet, crest, sag; see vcp --help\n";
     expect_error(&folder, &[], 2, &format!("vcp: a command is missing\n{names}"));
     for word in ["lists", "LIST", "--list", "", "-"] {
         expect_error(&folder, &[word], 2, &format!("vcp: there is no command {word:?}\n{names}"));

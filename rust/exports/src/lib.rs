@@ -32,6 +32,12 @@ pub const GREATEST_FARTHEST: u32 = 8_000;
 /// Numbers that hold the ends of all zones of any list of marks: between two zones there is a station of neither.
 pub const MOST_ENDS: usize = GREATEST_LIST + 1;
 
+/// The least speed that is accepted, in km/h.
+pub const LEAST_SPEED: u32 = 20;
+
+/// The greatest speed that is accepted, in km/h.
+pub const GREATEST_SPEED: u32 = 130;
+
 /// The height of the eye that roads are marked with, 1.08 m.
 pub const EYE_HEIGHT: u32 = 10_800;
 

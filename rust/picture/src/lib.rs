@@ -1,7 +1,7 @@
-//! A road's picture, in SVG: its profile, the zones along it, and its curves.
+//! A road's picture, in SVG: its profile, the zones along it, and its curves; and a page of the distances on a level road.
 //!
 //! This only draws. Heights, distances and zones are handed over as the proved functions give them, and where they lie on
-//! the sheet is worked out in whole numbers. Any numbers are drawn: what would lie outside the plot lies at its edge, and only
+//! the sheet is worked out in whole numbers. Any profile is drawn: what would lie outside the plot lies at its edge, and only
 //! the bar of a zone that is narrower than it can be seen may reach a little further.
 
 #![forbid(unsafe_code)]
@@ -9,10 +9,12 @@
 
 use std::fmt::{self, Formatter};
 
+pub use crate::page::{level_page, LevelPage, LevelRow};
 use crate::sheet::{Sheet, BOTTOM, LEFT, RIGHT, SHEET_HEIGHT, SHEET_WIDTH};
 
 mod axes;
 mod curves;
+mod page;
 mod sheet;
 mod zones;
 

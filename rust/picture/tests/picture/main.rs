@@ -15,6 +15,7 @@ use crate::rules::{Plot, HEIGHT, LEFT, TOP, WIDTH};
 
 mod by_hand;
 mod elements;
+mod page;
 mod rules;
 
 /// The strips in the order of a profile's zones: class, letter and meaning.
