@@ -13,7 +13,7 @@ const PURPOSES: [(u64, bool); 6] = [(25, true), (30, true), (91, true), (112, fa
 
 /// The distance that an accepted speed, purpose and grade g require: (4,726 V t + 1,950 V²) / 850,000 fives of metres where g
 /// is 0, else (17,653 V t b + 24,525,000,000 V²) / (3,175,000 b) with b = 3,400,000 + 981 g, rounded up.
-fn required_distance(speed: u8, purpose: u8, grade: i32) -> usize {
+fn metres_for(speed: u8, purpose: u8, grade: i32) -> usize {
     let (tenths, braking) = PURPOSES[usize::from(purpose)];
     let speed = u64::from(speed);
     let fives = match (braking, grade) {
@@ -25,6 +25,20 @@ fn required_distance(speed: u8, purpose: u8, grade: i32) -> usize {
         }
     };
     5 * fives as usize
+}
+
+/// The required distance.
+pub fn required_distance(speed: u32, purpose: u32, grade: i32) -> Answer {
+    if !(20..=130).contains(&speed) {
+        return Err(6);
+    }
+    if purpose > 5 {
+        return Err(7);
+    }
+    if !(-1_500..=1_500).contains(&grade) {
+        return Err(10);
+    }
+    Ok(metres_for(speed as u8, purpose as u8, grade) as u32)
 }
 
 /// The stored heights of an accepted road, straight by straight and curve by curve.
@@ -69,8 +83,8 @@ fn sight(heights: &[i32], i: usize, farthest: usize) -> usize {
 fn write_marks(road: &Road, list: &mut [u8], sight: impl Fn(usize, usize) -> usize) -> Answer {
     let stations = road.length as usize + 1;
     let grade = marking_grade(road);
-    let stopping = required_distance(road.speed, 0, grade);
-    let decision = required_distance(road.speed, road.purpose, grade);
+    let stopping = metres_for(road.speed, 0, grade);
+    let decision = metres_for(road.speed, road.purpose, grade);
     let farthest = stopping.max(decision);
     for (i, place) in list[..stations].iter_mut().enumerate() {
         let stop = i + stopping < stations;

@@ -44,6 +44,28 @@ const PRINTED_ON_GRADES: [(u32, [u32; 6]); 12] = [
     (130, [302, 323, 350, 267, 254, 243]),
 ];
 
+/// Source document 002, table 3: design speed in km/h and the sight distances of the decisions A to E in metres.
+const PRINTED_DECISIONS: [(u32, [u32; 5]); 9] = [
+    (50, [70, 155, 145, 170, 195]),
+    (60, [95, 195, 170, 205, 235]),
+    (70, [115, 235, 200, 235, 275]),
+    (80, [140, 280, 230, 270, 315]),
+    (90, [170, 325, 270, 315, 360]),
+    (100, [200, 370, 315, 355, 400]),
+    (110, [235, 420, 330, 380, 430]),
+    (120, [265, 470, 360, 415, 470]),
+    (130, [305, 525, 390, 450, 510]),
+];
+
+/// The figures of the decisions A and B that are less than the van's: speed, purpose, and the distance by the equation in hundredths of
+/// a metre, cut off. They are rounded to the nearest 5 m, and the van's up.
+const ROUNDED_TO_THE_NEAREST_FIVE: [(u32, u32, i128); 4] =
+    [(50, 1, 7_037), (50, 2, 15_516), (80, 1, 14_013), (120, 1, 26_525)];
+
+/// The least reaction times that AASHTO recommends for the decisions C to E, in tenths of a second, by section 3.2. The van takes the
+/// greatest.
+const LEAST_REACTION: [(u32, i128); 3] = [(3, 102), (4, 121), (5, 140)];
+
 /// How a figure of table 2 comes of equation (2).
 #[derive(Clone, Copy, Debug, PartialEq)]
 enum Rounding {
@@ -192,6 +214,32 @@ fn stopping_distances_printed_by_aashto_on_grades() {
         }
     }
     assert_eq!(otherwise, ROUNDED_OTHERWISE);
+}
+
+/// The multiple of 5 m that is nearest to an exact distance.
+fn nearest_five(exact: Fraction) -> u32 {
+    let fives = (exact / Fraction::whole(5) + Fraction::new(1, 2)).floor();
+    u32::try_from(5 * fives).expect("a distance is not negative")
+}
+
+/// All figures of table 3. Those of the decisions A and B are the van's, or the equation rounded to the nearest 5 m. Those of C to E lie
+/// between the distance of the least reaction time that AASHTO recommends, rounded to the nearest 5 m, and the van's.
+#[test]
+fn decision_distances_printed_by_aashto() {
+    let mut nearest = Vec::new();
+    for (speed, figures) in PRINTED_DECISIONS {
+        for (purpose, figure) in (1..).zip(figures) {
+            let (metres, exact) = (distance(speed, purpose, LEVEL), exact_distance(speed, purpose as usize, LEVEL));
+            if let Some((_, tenths)) = LEAST_REACTION.into_iter().find(|&(own, _)| own == purpose) {
+                let shortest = Fraction::new(278, 10_000) * Fraction::whole(i128::from(speed) * tenths);
+                assert!((nearest_five(shortest)..=metres).contains(&figure), "speed {speed}, purpose {purpose}");
+            } else if figure != metres {
+                assert_eq!(figure, nearest_five(exact), "speed {speed}, purpose {purpose}");
+                nearest.push((speed, purpose, (exact * Fraction::whole(100)).floor()));
+            }
+        }
+    }
+    assert_eq!(nearest, ROUNDED_TO_THE_NEAREST_FIVE);
 }
 
 #[test]

@@ -54,6 +54,18 @@ fn markings() {
 }
 
 #[test]
+fn required_distances() {
+    for speed in [0, 19, 131, 256 + 20, u32::MAX].into_iter().chain(20..=130) {
+        for purpose in [0, 1, 2, 3, 4, 5, 6, 256, u32::MAX] {
+            for grade in [i32::MIN, -1_501, -1_500, -33, 0, 1, 600, 1_500, 1_501] {
+                let answer = quick::required_distance(speed, purpose, grade);
+                assert_eq!(answer, required_distance(speed, purpose, grade), "{speed}, {purpose}, {grade}");
+            }
+        }
+    }
+}
+
+#[test]
 fn crest_lengths() {
     let mut random = Random::new(82);
     let mut tally = Tally::default();

@@ -3,6 +3,7 @@
 //! those on the processor: what other programs took meanwhile does not count. Last, the command's listing of many roads
 //! beside their marking, by the clock on the wall.
 
+use std::fmt::Debug;
 use std::fs;
 use std::hint::black_box;
 use std::ops::RangeInclusive;
@@ -131,35 +132,52 @@ fn markings(road: &Road, other: Marking) -> Times {
     )
 }
 
-/// The van's crest length beside the Rust one, which gives the same lengths: the times of one crest.
-fn crest_lengths() -> Times {
-    let mut random = Random::new(1);
-    let crests: Vec<Crest> = (0..1_000)
-        .map(|_| Crest {
-            speed: random.within(20..=130),
-            drop: random.within(1..=3_000),
-            sight: random.of_any_size(800),
-            eye: random.within(1..=50_000),
-            object: random.within(1..=50_000),
-        })
-        .collect();
-    let van_length = |crest: Crest| vcp::crest_length(crest.speed, crest.drop, crest.sight, crest.eye, crest.object);
-    for &crest in &crests {
-        assert_eq!(bare(van_length(crest)), quick::crest_length(crest), "{crest:?}");
+/// The van's answers beside the Rust ones, which are the same: the times of one answer.
+fn answers<T: Copy + Debug>(
+    inputs: &[T],
+    van: impl Fn(T) -> Result<u32, vcp::Refusal>,
+    other: impl Fn(T) -> Answer,
+) -> Times {
+    for &input in inputs {
+        assert_eq!(bare(van(input)), other(input), "{input:?}");
     }
-    let Times { van, other, ratio } = side_by_side(
+    let times = side_by_side(
         &mut || {
-            for &crest in &crests {
-                let _ = black_box(van_length(black_box(crest)));
+            for &input in inputs {
+                let _ = black_box(van(black_box(input)));
             }
         },
         &mut || {
-            for &crest in &crests {
-                let _ = black_box(quick::crest_length(black_box(crest)));
+            for &input in inputs {
+                let _ = black_box(other(black_box(input)));
             }
         },
     );
-    Times { van: van / crests.len() as f64, other: other / crests.len() as f64, ratio }
+    let many = inputs.len() as f64;
+    Times { van: times.van / many, other: times.other / many, ratio: times.ratio }
+}
+
+/// Crest lengths for any numbers in their ranges.
+fn crest_lengths() -> Times {
+    let mut random = Random::new(1);
+    let crest = |_| Crest {
+        speed: random.within(20..=130),
+        drop: random.within(1..=3_000),
+        sight: random.of_any_size(800),
+        eye: random.within(1..=50_000),
+        object: random.within(1..=50_000),
+    };
+    let crests: Vec<Crest> = (0..1_000).map(crest).collect();
+    let van = |crest: Crest| vcp::crest_length(crest.speed, crest.drop, crest.sight, crest.eye, crest.object);
+    answers(&crests, van, quick::crest_length)
+}
+
+/// Distances on the level, which the van reads off a sheet, for any speed and purpose.
+fn level_distances() -> Times {
+    let mut random = Random::new(3);
+    let asked: Vec<[u32; 2]> = (0..1_000).map(|_| [random.within(20..=130), random.within(0..=5)]).collect();
+    let van = |[speed, purpose]: [u32; 2]| vcp::required_distance(speed, purpose, 0);
+    answers(&asked, van, |[speed, purpose]| quick::required_distance(speed, purpose, 0))
 }
 
 /// A level road whose decision distance is that of purpose E.
@@ -214,8 +232,9 @@ fn comparisons() {
         let target = if road.length == 8_000 { &target } else { "" };
         row(name, "literal rule", &times, [times.other / times.van, faster], target);
     }
-    let times = crest_lengths();
-    row("crest length", "safe Rust", &times, [times.van / times.other, times.ratio], "");
+    for (name, times) in [("crest length", crest_lengths()), ("level distance", level_distances())] {
+        row(name, "safe Rust", &times, [times.van / times.other, times.ratio], "");
+    }
 }
 
 /// How the marking of a level road grows, on both sides in microseconds.
