@@ -69,6 +69,7 @@ fn words_of_the_page() {
         }
     }
     let notes = texts("note");
+    assert!(notes.len() == 11 && notes.iter().all(|note| note.len() <= 34), "the page has room for them");
     let call = notes.iter().find_map(|note| note.strip_prefix("vcp ")).expect("a call");
     let arguments: Vec<&str> = call.split(' ').collect();
     let metres = required_distance(80, 2, -600).expect("all are accepted");

@@ -46,7 +46,8 @@ pub struct LevelRow {
     pub metres: [u32; COLUMNS - 1],
 }
 
-/// The distances on a level road, and what is to be said of them. There is room for 111 rows, and below them for eleven notes.
+/// The distances on a level road, and what is to be said of them. There is room for 111 rows, and below them for 11 notes of 34
+/// letters.
 #[derive(Clone, Copy, Debug)]
 pub struct LevelPage<'a> {
     /// The purposes' short names.

@@ -20,7 +20,9 @@ const LETTER: i64 = 53;
 const BOLD_LETTER: i64 = 60;
 
 const PURPOSES: [&str; 6] = ["stop", "A", "B", "C", "D", "E"];
-const NOTES: [&str; 2] = ["A note of thirty and three letters", "another"];
+
+/// As many notes as there is room for, and as long.
+const NOTES: [&str; 11] = ["a note of four and thirty letters."; 11];
 
 /// The rows of the second calculation.
 fn rows() -> Vec<LevelRow> {
@@ -176,17 +178,16 @@ fn legible_on_a4() {
 /// The notes stand one below the other under the last part, and eleven of them end where the longer parts do.
 #[test]
 fn notes_below_the_last_part() {
-    let (all, eleven) = (rows(), ["a note"; 11]);
-    let page = Elements::of(&level_page(&LevelPage { purposes: PURPOSES, rows: &all, notes: &eleven }));
+    let page = page(&rows());
     let frames: Vec<[i64; 4]> = page.with("class", "frame").map(rectangle).collect();
     let [left, top, _, height] = frames[2];
     let mut foot = top + height;
     for note in page.with("class", "note") {
-        assert_eq!((note.number("x"), shown(note)), (left, "a note"));
+        assert_eq!((note.number("x"), shown(note)), (left, NOTES[0]));
         assert!(foot + size(&page, ".note") <= note.number("y"));
         foot = note.number("y");
     }
-    assert_eq!(page.with("class", "note").count(), 11);
+    assert_eq!(page.with("class", "note").count(), NOTES.len());
     assert!(foot <= frames[0][1] + frames[0][3]);
 }
 
