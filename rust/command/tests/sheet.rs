@@ -1,4 +1,4 @@
-//! `vcp sheet`: every distance on a level road, in words and on a page.
+//! `vcp sheet`: every distance on a level road, as text and on a page.
 
 mod common;
 
