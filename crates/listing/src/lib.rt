@@ -109,7 +109,7 @@ fn write_bit_lines(marks: &[u8], bit: u32, text: &mut [u8], at: usize) -> usize
     write_zone_lines(letter, &ends, count as usize, text, at)
 }
 
-// Writes the zones of all bits.
+// Writes the zones of all letters.
 fn write_zones_text(marks: &[u8], text: &mut [u8], at: usize) -> usize
     requires { ⌜ (0 < length (now marks)) × (length (now marks) ≤ greatestMarkedRoad + 1) ⌝ }
     ensures { λ r. ⌜ Put (zonesText (now (marks .entry))) at r (now (text .entry)) (now (text .exit)) ⌝ }

@@ -67,7 +67,7 @@ greatestFarthest = 8000
 
 -- the last bit that zones are asked for
 abbrev pub lastBit : ℕ
-lastBit = 4
+lastBit = 6
 
 -- the heights of the eye, 1.08 m, and of the object, 0.60 m, in h-units, that a road is marked with
 abbrev pub eyeHeight : ℕ
@@ -75,3 +75,45 @@ eyeHeight = 10800
 
 abbrev pub objectHeight : ℕ
 objectHeight = 6000
+
+-- the height, 1.08 m, of what has to be seen of an oncoming car before one passes
+abbrev pub passingObjectHeight : ℕ
+passingObjectHeight = 10800
+
+-- passing: the time t1 of the initial manoeuvre and t2 in the left lane in tenths of a second, the acceleration a in hundredths of km/h
+-- per second, the speed v of the passing car and its difference m to the other's in tenths of km/h, the clearance d3 in metres
+abbrev pub leastInitialTime : ℕ
+leastInitialTime = 36
+
+abbrev pub greatestInitialTime : ℕ
+greatestInitialTime = 45
+
+abbrev pub leastAcceleration : ℕ
+leastAcceleration = 225
+
+abbrev pub greatestAcceleration : ℕ
+greatestAcceleration = 241
+
+abbrev pub leastPassingSpeed : ℕ
+leastPassingSpeed = 300
+
+abbrev pub greatestPassingSpeed : ℕ
+greatestPassingSpeed = 1300
+
+abbrev pub leastSpeedDifference : ℕ
+leastSpeedDifference = 100
+
+abbrev pub greatestSpeedDifference : ℕ
+greatestSpeedDifference = 200
+
+abbrev pub leastLeftLaneTime : ℕ
+leastLeftLaneTime = 93
+
+abbrev pub greatestLeftLaneTime : ℕ
+greatestLeftLaneTime = 113
+
+abbrev pub leastClearance : ℕ
+leastClearance = 30
+
+abbrev pub greatestClearance : ℕ
+greatestClearance = 90

@@ -81,14 +81,18 @@ listRefused = 19
 abbrev pub stationRefused : ℕ
 stationRefused = 20
 
--- farthest distance not 1 to 8,000
+-- farthest distance or passing distance not 1 to 8,000
 abbrev pub farthestRefused : ℕ
 farthestRefused = 21
 
--- bit number over 4
+-- bit number over 6
 abbrev pub bitRefused : ℕ
 bitRefused = 22
 
 -- a lent list with fewer than two numbers for each zone
 abbrev pub zoneRoomRefused : ℕ
 zoneRoomRefused = 23
+
+-- one of the six values of a passing manoeuvre out of its range
+abbrev pub manoeuvreRefused : ℕ
+manoeuvreRefused = 24

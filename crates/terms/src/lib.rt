@@ -63,6 +63,8 @@ pub const BIT_REFUSED: u8 = 22;
 
 pub const ZONE_ROOM_REFUSED: u8 = 23;
 
+pub const MANOEUVRE_REFUSED: u8 = 24;
+
 // ---- limits
 // Speeds in km/h.
 pub const LEAST_SPEED: u32 = 20;
@@ -113,12 +115,41 @@ pub const MARKED_STATIONS: usize = GREATEST_MARKED_ROAD as usize + 1;
 pub const GREATEST_FARTHEST: u32 = 8000;
 
 // The last bit that zones are asked for.
-pub const LAST_BIT: u32 = 4;
+pub const LAST_BIT: u32 = 6;
 
 // The heights of the eye, 1.08 m, and of the object, 0.60 m, in h-units, that a road is marked with.
 pub const EYE_HEIGHT: u32 = 10800;
 
 pub const OBJECT_HEIGHT: u32 = 6000;
+
+// The height, 1.08 m, of what has to be seen of an oncoming car before one passes.
+pub const PASSING_OBJECT_HEIGHT: u32 = 10800;
+
+// Passing: the time t1 of the initial manoeuvre and t2 in the left lane in tenths of a second, the acceleration a in hundredths of
+// km/h per second, the speed v of the passing car and its difference m to the other's in tenths of km/h, the clearance d3 in metres.
+pub const LEAST_INITIAL_TIME: u32 = 36;
+
+pub const GREATEST_INITIAL_TIME: u32 = 45;
+
+pub const LEAST_ACCELERATION: u32 = 225;
+
+pub const GREATEST_ACCELERATION: u32 = 241;
+
+pub const LEAST_PASSING_SPEED: u32 = 300;
+
+pub const GREATEST_PASSING_SPEED: u32 = 1300;
+
+pub const LEAST_SPEED_DIFFERENCE: u32 = 100;
+
+pub const GREATEST_SPEED_DIFFERENCE: u32 = 200;
+
+pub const LEAST_LEFT_LANE_TIME: u32 = 93;
+
+pub const GREATEST_LEFT_LANE_TIME: u32 = 113;
+
+pub const LEAST_CLEARANCE: u32 = 30;
+
+pub const GREATEST_CLEARANCE: u32 = 90;
 
 // Whether `x` is not `low` to `high`.
 pub fn outside(low: u32, high: u32, x: u32) -> bool
