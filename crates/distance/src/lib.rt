@@ -1,10 +1,11 @@
-// docs/RULES.md, "Distances a driver needs": the required sight distance.
+// docs/RULES.md, "Distances a driver needs" and "Passing": the required sight distance, and the passing distance.
 ghost use mathlib.Core.Path.{_≡_};
 ghost use Prim.Native.Nat.{_<_, _≤_};
 ghost use mathlib.Core.Bool.{false};
 ghost use Rattle.terms.specs.Answers.{gradeOutside};
 ghost use Rattle.terms.specs.Limits.{leastSpeed, greatestSpeed, lastPurpose};
 ghost use Rattle.distance.specs.Distance.{requiredDistance, distancesFor, metresFor, levelMetres, gradedMetres, purposeRow, decelerationParts, upToFive};
+ghost use Rattle.distance.specs.PassingDistance.{manoeuvreOutside, passingParts, passingDistance};
 use terms::Answer;
 
 mod sheet;
@@ -20,6 +21,21 @@ pub struct Distances {
     pub stopping: u32,
     pub decision: u32,
 }
+
+// How a car passes another: the time t1 of its initial manoeuvre in tenths of a second, its acceleration a in hundredths of km/h per
+// second, its speed v and how much faster m it is than the other in tenths of km/h, its time t2 in the left lane in tenths of a second,
+// and the clearance d3 in metres that is left to an oncoming car.
+pub struct Manoeuvre {
+    pub t1: u32,
+    pub a: u32,
+    pub v: u32,
+    pub m: u32,
+    pub t2: u32,
+    pub d3: u32,
+}
+
+// The parts of a metre that a passing distance is counted in before rounding.
+const PASSING_METRE: u64 = 30000000;
 
 // Stopping, then decision A to E.
 const PURPOSES: [Purpose; 6] = [
@@ -124,4 +140,60 @@ pub fn distances_for(speed: u32, purpose: u32, grade: i32) -> Distances
         stopping: terms::value_or_zero(stopping),
         decision: terms::value_or_zero(decision),
     }
+}
+
+// Whether any value of a manoeuvre is outside its range.
+fn manoeuvre_outside(w: Manoeuvre) -> bool
+    ensures { λ r. ⌜ r ≡ manoeuvreOutside w ⌝ }
+{
+    terms::outside(
+        terms::LEAST_INITIAL_TIME,
+        terms::GREATEST_INITIAL_TIME,
+        w.t1,
+    )
+        | terms::outside(terms::LEAST_ACCELERATION, terms::GREATEST_ACCELERATION, w.a)
+        | terms::outside(
+            terms::LEAST_PASSING_SPEED,
+            terms::GREATEST_PASSING_SPEED,
+            w.v,
+        )
+        | terms::outside(
+            terms::LEAST_SPEED_DIFFERENCE,
+            terms::GREATEST_SPEED_DIFFERENCE,
+            w.m,
+        )
+        | terms::outside(
+            terms::LEAST_LEFT_LANE_TIME,
+            terms::GREATEST_LEFT_LANE_TIME,
+            w.t2,
+        )
+        | terms::outside(terms::LEAST_CLEARANCE, terms::GREATEST_CLEARANCE, w.d3)
+}
+
+// The passing distance before rounding: the initial manoeuvre, the left lane, the clearance, and the oncoming car's two thirds of the
+// time in the left lane.
+fn passing_parts(w: Manoeuvre) -> u64
+    requires { ⌜ manoeuvreOutside w ≡ false ⌝ }
+    ensures { λ r. ⌜ r ≡ passingParts w ⌝ }
+{
+    let t1 = w.t1 as u64;
+    let a = w.a as u64;
+    let v = w.v as u64;
+    let t2 = w.t2 as u64;
+    let passed = v - w.m as u64;
+    let d1 = 417 * t1 * (200 * passed + a * t1);
+    let d2 = 83400 * v * t2;
+    let d3 = PASSING_METRE * w.d3 as u64;
+    let d4 = 55600 * v * t2;
+    d1 + d2 + d3 + d4
+}
+
+// The distance that a driver needs to see to pass another car.
+pub fn passing_distance(w: Manoeuvre) -> Answer
+    ensures { λ r. ⌜ r ≡ passingDistance w ⌝ }
+{
+    if manoeuvre_outside(w) {
+        return Answer::Refused(terms::MANOEUVRE_REFUSED);
+    }
+    Answer::Number(up_to_five(passing_parts(w), PASSING_METRE) as u32)
 }
