@@ -3,22 +3,26 @@ use mathlib.Core.Path.{refl}
 use Rattle.whole.specs.Fill.{filled}
 use Rattle.whole.specs.Floor.{floorDiv}
 use Rattle.distance.specs.Distance.{requiredDistance, metresFor, levelMetres, gradedMetres, levelParts, gradedParts, upToFive}
+use Rattle.distance.specs.PassingDistance.{passingDistance, passingParts, initialParts, leftLaneParts, oncomingParts, manoeuvreOutside}
 use Rattle.curve_lengths.specs.Lengths.{crestLength, sagLength, lengthVerdict, leastEven, longEnough, reachesMinimum, adequate, withinRoot}
 use Rattle.road.specs.Road.{roadVerdict, numbersVerdict, curvesVerdict, curveVerdict}
 use Rattle.heights.specs.Profile.{storedHeight, exactHeight, exactFrom}
 use Rattle.heights.specs.Heights.{heightsAnswer, heightsList, ownHeights}
-use Rattle.verdicts.specs.Verdicts.{sightVerdict, lookVerdict}
+use Rattle.verdicts.specs.Verdicts.{sightVerdict, lookVerdict, passingVerdict}
 use Rattle.sight.specs.Sight.{availableSight, sightFrom, reach, seen, everyBetween, every, clears}
 use Rattle.sight.specs.Operations.{sightAnswer}
-use Rattle.cases.specs.Cases.{StarredCases, curve, crestRoad, heightAt, leastAdequate}
+use Rattle.passing.specs.Passing.{passingMark, passingAnswer, passingList}
+use Rattle.cases.specs.Cases.{StarredCases, curve, crestRoad, heightAt, leastAdequate, manoeuvre, passingOver}
 
 pub starred-cases : StarredCases
-unfolding requiredDistance metresFor levelMetres gradedMetres levelParts gradedParts upToFive crestLength sagLength lengthVerdict leastAdequate leastEven longEnough reachesMinimum adequate withinRoot roadVerdict numbersVerdict curvesVerdict curveVerdict heightAt ownHeights heightsList heightsAnswer filled storedHeight exactHeight exactFrom floorDiv crestRoad curve sightVerdict lookVerdict sightAnswer availableSight sightFrom reach seen everyBetween every clears
+unfolding requiredDistance metresFor levelMetres gradedMetres levelParts gradedParts upToFive passingDistance passingParts initialParts leftLaneParts oncomingParts manoeuvreOutside manoeuvre crestLength sagLength lengthVerdict leastAdequate leastEven longEnough reachesMinimum adequate withinRoot roadVerdict numbersVerdict curvesVerdict curveVerdict heightAt ownHeights heightsList heightsAnswer filled storedHeight exactHeight exactFrom floorDiv crestRoad curve sightVerdict lookVerdict sightAnswer availableSight sightFrom reach seen everyBetween every clears passingOver passingList passingAnswer passingVerdict passingMark
 starred-cases = record {
   distances = (refl, refl, refl, refl, refl, refl);
+  passing = (refl, refl, refl, refl);
   crests = (refl, refl, refl, refl, refl, refl);
   adequate-crests = (refl, refl, refl, refl);
   sags = (refl, refl, refl, refl, refl);
   heights = (refl, refl, refl, refl, refl, refl);
   sights = (refl, refl, refl);
+  passing-marks = (refl, refl, refl);
 }

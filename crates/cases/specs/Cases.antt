@@ -1,7 +1,7 @@
 -- The starred cases, which are worked examples of the rules, by the headings of docs/RULES.md; the acceptance of both roads and the
 -- height 0 at 100 stand beside them.
 use mathlib.Core.Path.{_≡_}
-use mathlib.Core.List.{[], _∷_}
+use mathlib.Core.List.{List, [], _∷_}
 use Prim.Native.Nat.{ℕ, _*_, _/_}
 use lib.IntN.{ℤ, pos, negℤ}
 use lib.ListN.{getD, replicate}
@@ -9,13 +9,16 @@ use Rattle.terms.specs.Limits.{stoppingPurpose, eyeHeight, objectHeight}
 use Rattle.terms.specs.declared.Answer.{Answer}
 use Rattle.terms.specs.declared.Answer.the-variants.{Number}
 use Rattle.terms.specs.declared.Verdict.the-variants.{Accepted}
+use Rattle.distance.specs.declared.Manoeuvre.{Manoeuvre}
 use Rattle.distance.specs.Distance.{purposeRow, metreParts, levelParts, requiredDistance}
+use Rattle.distance.specs.PassingDistance.{passingMetre, passingParts, passingDistance}
 use Rattle.curve_lengths.specs.Lengths.{crestAdequate, sagAdequate, leastLength, crestLength, sagLength}
 use Rattle.road.specs.declared.Curve.{Curve}
 use Rattle.road.specs.declared.Road.{Road}
 use Rattle.road.specs.Road.{roadVerdict}
 use Rattle.heights.specs.Heights.{ownHeights}
 use Rattle.sight.specs.Operations.{sightAnswer}
+use Rattle.passing.specs.Passing.{passingList}
 
 -- a curve by its PVI, its length and its grade out
 unfoldable pub curve : ℕ → ℕ → ℤ → Curve
@@ -41,6 +44,14 @@ heightAt l x = getD (ownHeights (crestRoad l)) x (negℤ (pos 1))
 unfoldable pub leastAdequate : ℕ → ℕ → Answer
 leastAdequate a s = leastLength (crestAdequate a s eyeHeight objectHeight)
 
+-- a manoeuvre by t1, a, v, m, t2 and d3
+unfoldable pub manoeuvre : ℕ → ℕ → ℕ → ℕ → ℕ → ℕ → Manoeuvre
+manoeuvre t1 a v m t2 d3 = record { t1 = t1; a = a; v = v; m = m; t2 = t2; d3 = d3 }
+
+-- what Passing marks leaves of three bytes of 255 for heights 0, h, 0 and this passing distance
+unfoldable pub passingOver : ℤ → ℕ → List ℕ
+passingOver h R = passingList (pos 0 ∷ h ∷ pos 0 ∷ []) R (replicate 3 255)
+
 pub record StarredCases : Type 0 where
   -- Distances a driver needs: the 129.01 m before rounding in hundredths of a metre, rounded down
   pub distances :
@@ -50,6 +61,12 @@ pub record StarredCases : Type 0 where
       × (requiredDistance 20 1 (pos 0) ≡ Number 25)
       × (requiredDistance 130 5 (pos 0) ≡ Number 525)
       × (requiredDistance 90 stoppingPurpose (negℤ (pos 600)) ≡ Number 175)
+  -- Passing: the least of all, the greatest of all, and one between with its 317.45 m before rounding
+  pub passing :
+      (passingDistance (manoeuvre 36 225 300 200 93 30) ≡ Number 175)
+      × (passingDistance (manoeuvre 45 241 1300 100 113 90) ≡ Number 930)
+      × (passingDistance (manoeuvre 36 225 562 150 93 30) ≡ Number 320)
+      × (100 * passingParts (manoeuvre 36 225 562 150 93 30) / passingMetre ≡ 31745)
   -- How long a crest must be: e = 10,800 and o = 6,000; the lengths that are answered, and the least adequate ones, which may lie below
   -- the minimum for the speed
   pub crests :
@@ -85,3 +102,8 @@ pub record StarredCases : Type 0 where
       (sightAnswer (pos 0 ∷ pos 20 ∷ pos 0 ∷ pos 100 ∷ []) 0 10 5 8 ≡ Number 1)
       × (sightAnswer (pos 0 ∷ pos 5 ∷ pos 0 ∷ []) 0 6 4 8 ≡ Number 2)
       × (sightAnswer (pos 0 ∷ pos 6 ∷ pos 0 ∷ []) 0 6 4 8 ≡ Number 1)
+  -- Passing: the line touches the road, or is cut; and the road ends too soon
+  pub passing-marks :
+      (passingOver (pos 10800) 2 ≡ 0 ∷ 64 ∷ 64 ∷ [])
+      × (passingOver (pos 10801) 2 ≡ 32 ∷ 64 ∷ 64 ∷ [])
+      × (passingOver (pos 10800) 3 ≡ 64 ∷ 64 ∷ 64 ∷ [])

@@ -10,7 +10,7 @@ use Rattle.terms.specs.Answers.{outside, gradeOutside, listOutside, eyeOrObject
 use Rattle.terms.specs.Limits.{leastSpeed, greatestSpeed, firstDecision, lastPurpose, greatestHeight, greatestList, greatestFarthest}
 use Rattle.terms.specs.declared.Verdict.the-variants.{Accepted}
 use Rattle.terms.proofs.Laws.{GradeIn, fault-accepted, inside, not-outside, heights-not-outside, grade-inside, grade-not-outside}
-use Rattle.verdicts.specs.Verdicts.{lookVerdict, sightVerdict, profileVerdict, marksVerdict}
+use Rattle.verdicts.specs.Verdicts.{lookVerdict, sightVerdict, profileVerdict, marksVerdict, passingVerdict}
 
 -- ---- a look from an eye to an object
 pub record LookInRange (e o far : ℕ) : Type 0 where
@@ -91,3 +91,15 @@ module _ (speed purpose : ℕ) (grade : ℤ) (n : ℕ) where
         grade-not-outside grade (r .grade-in),
         not-outside 1 greatestList n (r .stations),
       )
+
+-- passing marks
+module _ (n R : ℕ) where
+  pub passing-in-range : passingVerdict n R ≡ Accepted → ((1 ≤ n) × (n ≤ greatestList)) × ((1 ≤ R) × (R ≤ greatestFarthest))
+  unfolding passingVerdict
+  passing-in-range a =
+      let list = fault-accepted (listOutside n) _ _ a in
+      (inside 1 greatestList n (list .0), inside 1 greatestFarthest R (fault-accepted (outside 1 greatestFarthest R) _ _ (list .1) .0))
+
+  pub passing-accepted : (1 ≤ n) × (n ≤ greatestList) → (1 ≤ R) × (R ≤ greatestFarthest) → passingVerdict n R ≡ Accepted
+  unfolding passingVerdict
+  passing-accepted l r = rw (not-outside 1 greatestList n l, not-outside 1 greatestFarthest R r)

@@ -1,4 +1,4 @@
--- docs/RULES.md, "What can be seen" and "Marks and zones": the refusals of the operations over a list of heights, in their order.
+-- docs/RULES.md, "What can be seen", "Marks and zones" and "Passing": the refusals of the operations over a list of heights, in their order.
 -- n is the number of heights. Where such an operation fills a list, 14 comes behind these.
 use Prim.Native.Nat.{ℕ}
 use lib.Dec.{leb}
@@ -33,3 +33,7 @@ marksVerdict speed purpose grade n =
     (fault (outside firstDecision lastPurpose purpose) purposeRefused
     (fault (gradeOutside grade) gradeRefused
     (fault (listOutside n) listRefused Accepted)))
+
+-- passing marks: 19, 21
+unfoldable pub passingVerdict : ℕ → ℕ → Verdict
+passingVerdict n R = fault (listOutside n) listRefused (fault (outside 1 greatestFarthest R) farthestRefused Accepted)

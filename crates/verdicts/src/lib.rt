@@ -1,7 +1,7 @@
-// docs/RULES.md, "What can be seen" and "Marks and zones": the refusals of the operations over a list of heights, for each engine,
-// direction or stretch that shares them.
+// docs/RULES.md, "What can be seen", "Marks and zones" and "Passing": the refusals of the operations over a list of heights, for each
+// engine, direction or stretch that shares them.
 ghost use mathlib.Core.Path.{_≡_};
-ghost use Rattle.verdicts.specs.Verdicts.{lookVerdict, sightVerdict, profileVerdict, marksVerdict};
+ghost use Rattle.verdicts.specs.Verdicts.{lookVerdict, sightVerdict, profileVerdict, marksVerdict, passingVerdict};
 use terms::Verdict;
 
 // Refusals 17 and 21 of a look from an eye to an object.
@@ -55,6 +55,19 @@ pub fn marks_verdict(speed: u32, purpose: u32, grade: i32, heights: usize) -> Ve
     }
     if terms::list_outside(heights) {
         return Verdict::Fault(terms::LIST_REFUSED);
+    }
+    Verdict::Accepted
+}
+
+// Passing marks, but for the room in their list.
+pub fn passing_verdict(heights: usize, distance: u32) -> Verdict
+    ensures { λ r. ⌜ r ≡ passingVerdict heights distance ⌝ }
+{
+    if terms::list_outside(heights) {
+        return Verdict::Fault(terms::LIST_REFUSED);
+    }
+    if terms::outside(1, terms::GREATEST_FARTHEST, distance) {
+        return Verdict::Fault(terms::FARTHEST_REFUSED);
     }
     Verdict::Accepted
 }
