@@ -1,8 +1,8 @@
 //! The proved operations that the van does not call, safe to call from the command `vcp` and from the tests: the functions
-//! of the crates `curve_exports`, `sight_exports`, `marks_exports`, `file_exports` and `listing_exports`.
+//! of the crates `curve_exports`, `sight_exports`, `marks_exports`, `passing_exports`, `file_exports` and `listing_exports`.
 //!
 //! Units are those of docs/RULES.md: metres along the road, h-units (tenths of a millimetre) for heights, hundredths of a
-//! percent for grades, uphill positive, and km/h.
+//! percent for grades, uphill positive, and km/h; those of passing stand at [`Manoeuvre`].
 //!
 //! Each function takes any input and ends: it answers, or refuses by one of the numbers of docs/RULES.md, and a refusal leaves a
 //! lent list as it was. A list that is filled has the answer as the number of places that were written; later ones stay.
@@ -44,6 +44,15 @@ pub const EYE_HEIGHT: u32 = 10_800;
 /// The height of the object that roads are marked with, 0.60 m.
 pub const OBJECT_HEIGHT: u32 = 6_000;
 
+/// The height of what has to be seen of an oncoming car before one passes, 1.08 m.
+pub const PASSING_OBJECT_HEIGHT: u32 = 10_800;
+
+/// The bit of a passing mark that says: passing judged and lacking.
+pub const PASSING_LACKING_BIT: u32 = 5;
+
+/// The bit of a passing mark that says: passing not judged.
+pub const PASSING_NOT_JUDGED_BIT: u32 = 6;
+
 // A test compares these declarations with the crates' src/lib.rt.
 extern "C" {
     fn vcp_sag_length(speed: u32, rise: u32, sight: u32) -> i64;
@@ -64,6 +73,14 @@ extern "C" {
         grade: i32,
         heights: *const i32,
         heights_length: usize,
+        list: *mut u8,
+        list_length: usize,
+    ) -> i64;
+    fn vcp_passing_distance(t1: u32, a: u32, v: u32, m: u32, t2: u32, d3: u32) -> i64;
+    fn vcp_passing_marks(
+        heights: *const i32,
+        heights_length: usize,
+        distance: u32,
         list: *mut u8,
         list_length: usize,
     ) -> i64;
@@ -132,11 +149,52 @@ pub fn marks(speed: u32, purpose: u32, grade: i32, heights: &[i32], list: &mut [
     })
 }
 
+/// How a car passes another on a two-lane road, by the names of AASHTO's formula.
+#[derive(Clone, Copy, Debug, PartialEq, Eq)]
+pub struct Manoeuvre {
+    /// The time of the initial manoeuvre, in tenths of a second.
+    pub t1: u32,
+    /// The average acceleration, in hundredths of km/h per second.
+    pub a: u32,
+    /// The average speed of the passing car, in tenths of km/h.
+    pub v: u32,
+    /// The difference in speed of the two cars, in tenths of km/h.
+    pub m: u32,
+    /// The time in the left lane, in tenths of a second.
+    pub t2: u32,
+    /// The distance to the oncoming car at the end, in metres.
+    pub d3: u32,
+}
+
+/// The distance in metres that a driver needs to see to pass another car.
+///
+/// # Errors
+/// Refused 24 if t1 is not 36 to 45, a not 225 to 241, v not 300 to 1,300, m not 100 to 200, t2 not 93 to 113 or d3 not 30 to 90.
+pub fn passing_distance(manoeuvre: Manoeuvre) -> Result<u32, Refusal> {
+    let Manoeuvre { t1, a, v, m, t2, d3 } = manoeuvre;
+    // SAFETY: it takes any six numbers and touches no memory of the caller.
+    refusal::answer(unsafe { vcp_passing_distance(t1, a, v, m, t2, d3) })
+}
+
+/// Marks each station of these heights for a passing distance in metres, with the eye at [`EYE_HEIGHT`] and the object at
+/// [`PASSING_OBJECT_HEIGHT`]: the mark has the bit [`PASSING_LACKING_BIT`] where passing is judged and sight lacks,
+/// [`PASSING_NOT_JUDGED_BIT`] where the road ends before the distance does, and no other.
+///
+/// # Errors
+/// Refused 19 if the heights are none or more than [`GREATEST_LIST`], 21 if the distance is not 1 to [`GREATEST_FARTHEST`], 14 if
+/// the list of marks is shorter than the heights.
+pub fn passing_marks(heights: &[i32], distance: u32, list: &mut [u8]) -> Result<u32, Refusal> {
+    // SAFETY: as for `sight_profile`.
+    refusal::answer(unsafe {
+        vcp_passing_marks(heights.as_ptr(), heights.len(), distance, list.as_mut_ptr(), list.len())
+    })
+}
+
 /// Writes the first and the last station of each zone of a bit of the marks, in pairs, and answers how many zones there are.
 /// A list of [`MOST_ENDS`] numbers holds them all.
 ///
 /// # Errors
-/// Refused 22 if the bit number is over 4, 19 if the marks are none or more than [`GREATEST_LIST`], 23 if the list holds
+/// Refused 22 if the bit number is over 6, 19 if the marks are none or more than [`GREATEST_LIST`], 23 if the list holds
 /// fewer than two numbers for each zone.
 pub fn zones(marks: &[u8], bit: u32, list: &mut [u16]) -> Result<u32, Refusal> {
     // SAFETY: as for `sight_profile`.

@@ -6,7 +6,7 @@
 use std::error::Error;
 use std::fmt;
 
-/// Why there is no answer: one of the numbers of docs/RULES.md, 1 to 23, with its reason in words.
+/// Why there is no answer: one of the numbers of docs/RULES.md, 1 to 24, with its reason in words.
 ///
 /// ```
 /// let refusal = refusal::answer(-6).unwrap_err();
@@ -18,8 +18,8 @@ pub struct Refusal {
     number: u32,
 }
 
-/// The reasons of refusals 1 to 23, in order.
-const REASONS: [&str; 23] = [
+/// The reasons of refusals 1 to 24, in order.
+const REASONS: [&str; 24] = [
     "the file has fewer than 16 bytes",
     "the file does not begin with the letters VCP",
     "the file's version is not 1",
@@ -40,9 +40,11 @@ const REASONS: [&str; 23] = [
     "no even length up to 2,000 m is adequate",
     "the list of heights or marks is empty or longer than 8,001",
     "the station is beyond the last",
-    "the farthest distance is not 1 to 8,000 m",
-    "the bit number is over 4",
+    "the farthest or the passing distance is not 1 to 8,000 m",
+    "the bit number is over 6",
     "the lent list holds fewer than two numbers for each zone",
+    "of the manoeuvre t1 is not 3.6 to 4.5 s, a not 2.25 to 2.41 km/h/s, v not 30 to 130 km/h, m not 10 to 20 km/h, \
+     t2 not 9.3 to 11.3 s or d3 not 30 to 90 m",
 ];
 
 impl Refusal {
