@@ -25,8 +25,8 @@ impl Picture<'_> {
 
     /// A line at a station, through the plot and the strips, and its number.
     fn station_tick(&self, out: &mut Formatter, station: i64) -> fmt::Result {
-        let x = self.sheet.x(station);
-        write!(out, r#"<path class="grid" d="M{x} {TOP}V{BOTTOM}M{x} 66800V88600"/>"#)?;
+        let (x, foot) = (self.sheet.x(station), self.sheet.lines_foot());
+        write!(out, r#"<path class="grid" d="M{x} {TOP}V{BOTTOM}M{x} 66800V{foot}"/>"#)?;
         writeln!(out, r#"<text class="middle" x="{x}" y="{STATIONS}">{station}</text>"#)
     }
 

@@ -10,7 +10,7 @@
 use std::fmt::{self, Formatter};
 
 pub use crate::page::{level_page, LevelPage, LevelRow};
-use crate::sheet::{Sheet, BOTTOM, LEFT, RIGHT, SHEET_HEIGHT, SHEET_WIDTH};
+use crate::sheet::{Sheet, BOTTOM, LEFT, RIGHT, SHEET_WIDTH};
 
 mod axes;
 mod curves;
@@ -50,6 +50,25 @@ pub struct Profile<'a> {
     pub heights: &'a [i32],
     /// The zones of the letters S, D, R, s and d, ascending, each by its first and last station.
     pub zones: &'a [Vec<[u16; 2]>; 5],
+    /// What is to be said of passing, where a distance for it is given.
+    pub passing: Option<Passing<'a>>,
+}
+
+/// What is to be said of passing another car along a road.
+#[derive(Clone, Copy, Debug)]
+pub struct Passing<'a> {
+    /// The distance in metres that a driver needs to see for passing.
+    pub distance: u32,
+    /// The zones where passing sight is lacking and those where passing is not judged, ascending, each by its first and
+    /// last station.
+    pub zones: &'a [Vec<[u16; 2]>; 2],
+}
+
+impl Profile<'_> {
+    /// The zones of each row below the plot, those of passing last.
+    fn rows(&self) -> impl Iterator<Item = &Vec<[u16; 2]>> {
+        self.zones.iter().chain(self.passing.iter().flat_map(|passing| passing.zones))
+    }
 }
 
 /// The picture of a profile: an SVG document that needs nothing else.
@@ -69,12 +88,13 @@ pub struct Profile<'a> {
 ///     curves: &[Curve { pvi: 100, length: 0, grade_out: -1_500 }],
 ///     heights: &heights,
 ///     zones: &[vec![[78, 96]], vec![[78, 96]], vec![], vec![[276, 300]], vec![[276, 300]]],
+///     passing: None,
 /// });
 /// assert!(picture.starts_with("<svg "));
 /// assert!(picture.contains("20 km/h, marked with grade &#8722;15.00 %: stopping sight 25 m, decision sight 25 m (purpose 1)"));
 /// ```
 pub fn svg(profile: &Profile) -> String {
-    Picture { profile, sheet: Sheet::of(profile.heights) }.to_string()
+    Picture { profile, sheet: Sheet::of(profile.heights, profile.rows().count()) }.to_string()
 }
 
 /// A profile on its sheet.
@@ -91,6 +111,9 @@ pub const MEANINGS: [&str; 5] = [
     "stopping not judged",
     "decision not judged",
 ];
+
+/// What the zones of passing are.
+pub const PASSING_MEANINGS: [&str; 2] = ["passing sight lacking", "passing not judged"];
 
 impl fmt::Display for Picture<'_> {
     /// What is drawn later lies above what was drawn before.
@@ -112,22 +135,28 @@ impl fmt::Display for Picture<'_> {
 impl Picture<'_> {
     /// The sheet's size, its styles and its ground.
     fn opening(&self, out: &mut Formatter) -> fmt::Result {
-        write!(out, r#"<svg xmlns="http://www.w3.org/2000/svg" viewBox="0 0 {SHEET_WIDTH} {SHEET_HEIGHT}" "#)?;
-        writeln!(out, r#"width="{}" height="{}">"#, SHEET_WIDTH / 100, SHEET_HEIGHT / 100)?;
-        writeln!(out, "<style>\n{}</style>", include_str!("style.css"))?;
-        writeln!(out, r##"<rect width="{SHEET_WIDTH}" height="{SHEET_HEIGHT}" fill="#fff"/>"##)
+        let height = self.sheet.height();
+        let passing = if self.profile.passing.is_some() { include_str!("passing.css") } else { "" };
+        write!(out, r#"<svg xmlns="http://www.w3.org/2000/svg" viewBox="0 0 {SHEET_WIDTH} {height}" "#)?;
+        writeln!(out, r#"width="{}" height="{}">"#, SHEET_WIDTH / 100, height / 100)?;
+        writeln!(out, "<style>\n{}{passing}</style>", include_str!("style.css"))?;
+        writeln!(out, r##"<rect width="{SHEET_WIDTH}" height="{height}" fill="#fff"/>"##)
     }
 
-    /// The title, and below it the speed, the grade, the distances that are needed, and the exaggeration.
+    /// The title, and below it the speed, the grade, the distances that are needed on it, that for passing, and the
+    /// exaggeration.
     fn headings(&self, out: &mut Formatter) -> fmt::Result {
-        let Profile { speed, purpose, grade, stopping, decision, .. } = *self.profile;
+        let Profile { speed, purpose, grade, stopping, decision, passing, .. } = *self.profile;
         let grade = decimal(grade.into(), 2, 2);
         let Sheet { length, exaggeration, .. } = self.sheet;
         writeln!(out, "<title>Sight along the road, {length} m</title>")?;
         writeln!(out, r#"<text class="title" x="1500" y="4200">Sight along the road, {length} m</text>"#)?;
         write!(out, r#"<text class="sub" x="1500" y="7000">{speed} km/h, marked with grade {grade} %: "#)?;
-        write!(out, "stopping sight {stopping} m, decision sight {decision} m (purpose {purpose}); ")?;
-        write!(out, "sight in the direction of rising stations &#8594;; ")?;
+        write!(out, "stopping sight {stopping} m, decision sight {decision} m (purpose {purpose})")?;
+        if let Some(Passing { distance, .. }) = passing {
+            write!(out, "; passing sight {distance} m")?;
+        }
+        write!(out, "; sight in the direction of rising stations &#8594;; ")?;
         writeln!(out, r#"vertical exaggeration <tspan class="letter">{exaggeration} : 1</tspan></text>"#)
     }
 

@@ -1,11 +1,10 @@
 //! The geometry of a picture: where stations and heights lie on the sheet, and the steps of its axes.
 //!
-//! Coordinates are whole hundredths of a pixel, x to the right and y down, on a sheet of 1,600 by 900 pixels. Stations are
-//! metres, and heights h-units.
+//! Coordinates are whole hundredths of a pixel, x to the right and y down, on a sheet that is 1,600 pixels wide, and
+//! 900 high where it has five strips of zones. Stations are metres, and heights h-units.
 
-// The sheet.
+/// The sheet's width. Its height goes by its strips.
 pub const SHEET_WIDTH: i64 = 160_000;
-pub const SHEET_HEIGHT: i64 = 90_000;
 
 // The edges of the plot, which the profile is drawn in.
 pub const LEFT: i64 = 22_000;
@@ -27,6 +26,10 @@ pub const STRIPS: i64 = 66_500;
 pub const STRIP_STEP: i64 = 4_400;
 pub const BARS: i64 = 1_500;
 pub const BAR_HEIGHT: i64 = 1_800;
+
+// How far the stations' lines and the sheet reach below the last strip.
+const LINES_BELOW: i64 = 100;
+const SHEET_BELOW: i64 = 1_500;
 
 /// A metre in h-units.
 pub const METRE: i64 = 10_000;
@@ -50,12 +53,14 @@ pub struct Sheet {
     pub foot: i64,
     /// The h-units from the plot's lower edge to its upper one.
     pub shown: i64,
+    /// y of the lower edge of the last strip.
+    strips_foot: i64,
 }
 
 impl Sheet {
     /// The sheet for a road with a height for each station: the profile in the middle of the plot, stretched as far as it
-    /// finds room.
-    pub fn of(heights: &[i32]) -> Sheet {
+    /// finds room, and so many strips below it.
+    pub fn of(heights: &[i32], strips: usize) -> Sheet {
         // With a length of 32 bits every product below fits 64.
         let length = u32::try_from(heights.len().saturating_sub(1)).unwrap_or(u32::MAX).into();
         let low = heights.iter().min().map_or(0, |&height| i64::from(height));
@@ -64,7 +69,18 @@ impl Sheet {
         let fits = |&exaggeration: &i64| range <= showing(PROFILE_ROOM, exaggeration, length);
         let exaggeration = EXAGGERATIONS.into_iter().find(fits).unwrap_or(1);
         let shown = showing(HEIGHT, exaggeration, length);
-        Sheet { length, exaggeration, foot: low - (shown - range).max(0) / 2, shown }
+        let strips_foot = STRIPS + STRIP_STEP * strips as i64;
+        Sheet { length, exaggeration, foot: low - (shown - range).max(0) / 2, shown, strips_foot }
+    }
+
+    /// The sheet's height.
+    pub fn height(&self) -> i64 {
+        self.strips_foot + SHEET_BELOW
+    }
+
+    /// y of the lower end of the stations' lines.
+    pub fn lines_foot(&self) -> i64 {
+        self.strips_foot + LINES_BELOW
     }
 
     /// x of a station; off the road that of its nearer end.

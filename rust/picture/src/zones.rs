@@ -2,11 +2,11 @@
 
 use std::fmt::{self, Formatter};
 
-use crate::sheet::{BARS, BAR_HEIGHT, HEIGHT, LEFT, RIGHT, SHEET_HEIGHT, STRIPS, STRIP_STEP, TOP};
-use crate::{Picture, MEANINGS};
+use crate::sheet::{BARS, BAR_HEIGHT, HEIGHT, LEFT, RIGHT, STRIPS, STRIP_STEP, TOP};
+use crate::{Picture, MEANINGS, PASSING_MEANINGS};
 
-/// The classes and letters of the strips, in the order of a profile's zones.
-const LETTERS: [[&str; 2]; 5] = [["S", "S"], ["D", "D"], ["R", "R"], ["ns", "s"], ["nd", "d"]];
+/// The classes and letters of the strips, in the order of a profile's zones, and behind them those of passing.
+const LETTERS: [[&str; 2]; 7] = [["S", "S"], ["D", "D"], ["R", "R"], ["ns", "s"], ["nd", "d"], ["P", "P"], ["np", "p"]];
 
 /// The labels of zones are a twentieth of the road apart.
 const LABELS: i64 = 20;
@@ -33,7 +33,8 @@ impl Picture<'_> {
     pub fn road(&self, out: &mut Formatter) -> fmt::Result {
         let [lacking, decision_lacking, reduced, not_judged, _] = self.profile.zones;
         let right = not_judged.first().map_or(RIGHT, |&[first, _]| self.sheet.zone_left(first));
-        writeln!(out, r#"<clipPath id="judged"><path d="M0 0H{right}V{SHEET_HEIGHT}H0Z"/></clipPath>"#)?;
+        let height = self.sheet.height();
+        writeln!(out, r#"<clipPath id="judged"><path d="M0 0H{right}V{height}H0Z"/></clipPath>"#)?;
         for (id, zones) in [("S", lacking), ("R", reduced), ("D", decision_lacking), ("ns", not_judged)] {
             writeln!(out, r#"<clipPath id="{id}">"#)?;
             self.bars(out, zones, TOP, HEIGHT)?;
@@ -51,10 +52,11 @@ impl Picture<'_> {
         Ok(())
     }
 
-    /// A strip for each letter.
+    /// A strip for each list of zones.
     pub fn strips(&self, out: &mut Formatter) -> fmt::Result {
         let tops = (0..).map(|place| STRIPS + STRIP_STEP * place);
-        for (((letter, meaning), zones), top) in LETTERS.into_iter().zip(MEANINGS).zip(self.profile.zones).zip(tops) {
+        let meanings = MEANINGS.into_iter().chain(PASSING_MEANINGS);
+        for (((letter, meaning), zones), top) in LETTERS.into_iter().zip(meanings).zip(self.profile.rows()).zip(tops) {
             self.strip(out, letter, meaning, zones, top)?;
         }
         Ok(())

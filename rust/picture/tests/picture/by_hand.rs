@@ -2,7 +2,7 @@
 
 use std::array;
 
-use picture::{svg, Curve, Profile};
+use picture::{svg, Curve, Passing, Profile};
 use sight_tests::random::Random;
 
 use crate::elements::{Element, Elements, Outline};
@@ -12,7 +12,18 @@ const NO_ZONES: [Vec<[u16; 2]>; 5] = [const { Vec::new() }; 5];
 
 /// A profile with these heights, curves and zones. If it has 1,281 heights, its stations are drawn a pixel apart.
 fn profile<'a>(heights: &'a [i32], curves: &'a [Curve], zones: &'a [Vec<[u16; 2]>; 5]) -> Profile<'a> {
-    Profile { speed: 20, purpose: 1, grade: 0, stopping: 20, decision: 25, first_grade: 0, curves, heights, zones }
+    Profile {
+        speed: 20,
+        purpose: 1,
+        grade: 0,
+        stopping: 20,
+        decision: 25,
+        first_grade: 0,
+        curves,
+        heights,
+        zones,
+        passing: None,
+    }
 }
 
 /// A filled hump over a crest, an open bowl over a sag, a triangle at a break, and nothing where the grade stays.
@@ -163,10 +174,11 @@ fn absurd_numbers() {
                 grade_out: random.one_of(&[i32::MIN, -1, 0, i32::MAX]),
             })
             .collect();
-        let zones = array::from_fn(|_| {
+        let mut any_zones = |_| {
             let places = random.within(0..=5) as usize;
             random.list(places, |bits| [bits as u16, (bits >> 16) as u16 >> (bits >> 60)])
-        });
+        };
+        let (zones, passing_zones) = (array::from_fn(&mut any_zones), array::from_fn(&mut any_zones));
         let text = svg(&Profile {
             speed: u32::MAX,
             purpose: u32::MAX,
@@ -174,6 +186,7 @@ fn absurd_numbers() {
             stopping: 0,
             decision: u32::MAX,
             first_grade: i32::MIN,
+            passing: random.once_in(2).then_some(Passing { distance: u32::MAX, zones: &passing_zones }),
             ..profile(&heights, &curves, &zones)
         });
         on_the_sheet(&Elements::of(&text));

@@ -16,15 +16,18 @@ use crate::rules::{Plot, HEIGHT, LEFT, TOP, WIDTH};
 mod by_hand;
 mod elements;
 mod page;
+mod passing;
 mod rules;
 
-/// The strips in the order of a profile's zones: class, letter and meaning.
-const STRIPS: [[&str; 3]; 5] = [
+/// The strips in the order of a profile's zones, and behind them those of passing: class, letter and meaning.
+const STRIPS: [[&str; 3]; 7] = [
     ["S", "S", "stopping sight lacking"],
     ["D", "D", "decision sight lacking"],
     ["R", "R", "reduced decision zone"],
     ["ns", "s", "stopping not judged"],
     ["nd", "d", "decision not judged"],
+    ["P", "P", "passing sight lacking"],
+    ["np", "p", "passing not judged"],
 ];
 
 // ---- the comparison
@@ -39,7 +42,7 @@ fn compare(road: &Road) -> usize {
     compare_headings(road, &drawn, &plot, &text);
     compare_profile(&drawn, &plot, &all);
     compare_zones(&drawn, &plot, &all);
-    compare_strips(&drawn, &plot, &all);
+    compare_strips(&drawn.zones, &plot, &all);
     compare_axes(&plot, &all);
     compare_curves(road, &drawn, &plot, &all);
     drawn.zones.iter().map(Vec::len).sum()
@@ -97,8 +100,10 @@ fn compare_zones(drawn: &Drawn, plot: &Plot, all: &Elements) {
     assert_eq!(paths, [("MHVHZ".to_string(), vec![0, 0, right, 90_000, 0])]);
 }
 
-fn compare_strips(drawn: &Drawn, plot: &Plot, all: &Elements) {
-    for (place, (zones, [class, letter, meaning])) in drawn.zones.iter().zip(STRIPS).enumerate() {
+/// A strip for each of these lists of zones, and no other.
+fn compare_strips(lists: &[Vec<[u16; 2]>], plot: &Plot, all: &Elements) {
+    assert_eq!(all.with("class", "lane").count(), lists.len());
+    for (place, (zones, [class, letter, meaning])) in lists.iter().zip(STRIPS).enumerate() {
         let (strip, group) = all.only("class", class);
         assert_eq!(group.get("transform"), format!("translate(0 {})", 66_500 + 4_400 * place), "{class}");
         let words = format!("&#160; {meaning}");

@@ -16,7 +16,7 @@ const EDGE: i64 = 500;
 // How wide a digit, a bold one and a letter in running text are in the widest of the usual fonts, in hundredths of the font's size.
 const DIGIT: i64 = 64;
 const BOLD_DIGIT: i64 = 70;
-const LETTER: i64 = 53;
+pub const LETTER: i64 = 53;
 const BOLD_LETTER: i64 = 60;
 
 const PURPOSES: [&str; 6] = ["stop", "A", "B", "C", "D", "E"];
