@@ -3,12 +3,12 @@
 use std::io::{self, IsTerminal};
 use std::path::Path;
 
-use exports::{Refusal, EYE_HEIGHT, GREATEST_LISTING, OBJECT_HEIGHT};
+use exports::{Manoeuvre, Refusal, EYE_HEIGHT, GREATEST_LISTING, OBJECT_HEIGHT};
 use picture::{Curve, Profile};
 use roadtext::Fault;
 
-use crate::arguments::{Given, GRADE, HEIGHT, WHOLE};
-use crate::judgement::Judgement;
+use crate::arguments::{Given, ACCELERATION, GRADE, HEIGHT, TENTHS, WHOLE};
+use crate::judgement::{Judgement, Passing};
 use crate::output::{self, Output};
 use crate::survey::Survey;
 use crate::trouble::{shown, Trouble, ANSWERED};
@@ -99,10 +99,19 @@ pub fn check(given: &Given, output: &mut Output) -> Result<u8, Trouble> {
     output.write(report::report(&shown(path), &judgement, survey.first).as_bytes()).map(|()| ANSWERED)
 }
 
-/// The picture of a road file.
-fn picture_of(file: &[u8]) -> Result<String, Refusal> {
+/// `vcp passing`.
+pub fn passing(given: &Given, output: &mut Output) -> Result<u8, Trouble> {
+    let distance = given.operand(1, |text| WHOLE.read(text))?;
+    let path = given.file();
+    let passing = Passing::of_road(&input::road_file(path)?, distance).map_err(Trouble::refused(path))?;
+    output.write(report::passing(&shown(path), &passing).as_bytes()).map(|()| ANSWERED)
+}
+
+/// The picture of a road file, with rows for passing where a passing distance is given.
+fn picture_of(file: &[u8], distance: Option<u32>) -> Result<String, Refusal> {
     let road = roadtext::road_numbers(file)?;
     let judgement = Judgement::of_road(file)?;
+    let passing = distance.map(|distance| Passing::of_road(file, distance)).transpose()?;
     let curve = |&[pvi, length, grade_out]: &[i64; 3]| Curve {
         pvi: pvi as u32,
         length: length as u32,
@@ -119,12 +128,16 @@ fn picture_of(file: &[u8]) -> Result<String, Refusal> {
         curves: &road.curves.iter().map(curve).collect::<Vec<_>>(),
         heights: &tables::heights_of(file)?,
         zones: &judgement.zones,
+        passing: passing
+            .as_ref()
+            .map(|Passing { distance, zones, .. }| picture::Passing { distance: *distance, zones }),
     }))
 }
 
 /// `vcp plot`.
 pub fn plot(given: &Given, output: &mut Output) -> Result<u8, Trouble> {
-    let picture = picture_of(&input::road_file(given.file())?).map_err(Trouble::refused(given.file()))?;
+    let distance = given.option("--passing", |text| WHOLE.read(text))?;
+    let picture = picture_of(&input::road_file(given.file())?, distance).map_err(Trouble::refused(given.file()))?;
     write_answer(given, output, picture.as_bytes())
 }
 
@@ -168,6 +181,19 @@ pub fn distance(given: &Given, output: &mut Output) -> Result<u8, Trouble> {
     let purpose = given.operand(1, purpose::read)?;
     let grade = grade(given)?;
     print(output, vcp::required_distance(speed, purpose, grade).map_err(Trouble::refused("vcp distance"))?)
+}
+
+/// `vcp passing-distance`.
+pub fn passing_distance(given: &Given, output: &mut Output) -> Result<u8, Trouble> {
+    let manoeuvre = Manoeuvre {
+        t1: given.needed("--t1", |text| TENTHS.read(text))?,
+        a: given.needed("--a", |text| ACCELERATION.read(text))?,
+        v: given.needed("--v", |text| TENTHS.read(text))?,
+        m: given.needed("--m", |text| TENTHS.read(text))?,
+        t2: given.needed("--t2", |text| TENTHS.read(text))?,
+        d3: given.needed("--d3", |text| WHOLE.read(text))?,
+    };
+    print(output, exports::passing_distance(manoeuvre).map_err(Trouble::refused("vcp passing-distance"))?)
 }
 
 /// The sight distance that is given; where none is, the stopping distance of the speed on the level.

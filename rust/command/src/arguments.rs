@@ -48,6 +48,12 @@ pub const HEIGHT: Unit = Unit { decimals: 4 };
 /// Percent of grade, counted in hundredths.
 pub const GRADE: Unit = Unit { decimals: 2 };
 
+/// Seconds or km/h of a passing manoeuvre, counted in tenths.
+pub const TENTHS: Unit = Unit { decimals: 1 };
+
+/// km/h per second, counted in hundredths.
+pub const ACCELERATION: Unit = Unit { decimals: 2 };
+
 impl Unit {
     /// Reads a number that is not negative. A larger one than 32 bits hold is taken for the largest, which every proved
     /// function refuses as well.

@@ -70,7 +70,7 @@ const SPEED: Choice = needed("--speed", "KMH", "the speed in km/h");
 const SIGHT: Choice = choice("--sight", "M", "the sight distance (the stopping distance)");
 const GRADE: Choice = choice("--grade", "PERCENT", "the road's grade, uphill positive, as -6.00 (0.00)");
 
-pub const COMMANDS: [Command; 12] = [
+pub const COMMANDS: [Command; 14] = [
     Command {
         name: "list",
         prints: "the listing of road files, for programs",
@@ -139,11 +139,28 @@ the road is taken as level: give the grade that 'vcp report' names for it.",
         name: "plot",
         prints: "a picture of the profile and its zones, as SVG",
         details: "\
-The heights are stretched; the picture says how many times. The distances are
-those on the least of the road's grades, or 0 if none is negative.",
+The heights are stretched; the picture says how many times. The stopping and
+the decision distance are those on the least of the road's grades, or 0 if none
+is negative. Where a passing distance is given there are two rows more: where
+passing sight is lacking, and where passing is not judged.",
         operands: ONE_FILE,
-        options: &[OUTPUT],
+        options: &[choice("--passing", "M", "the passing distance ('vcp passing-distance')"), OUTPUT],
         run: answers::plot,
+    },
+    Command {
+        name: "passing",
+        prints: "where a road lacks the sight to pass, in words",
+        details: "\
+DISTANCE is the passing distance in m, as 'vcp passing-distance' prints it. Said
+is at how many stations passing sight is judged, lacking and not judged, and
+every zone where it is lacking or not judged, with its length. It is lacking
+where a driver towards rising stations does not see the whole distance, eye and
+object being 1.08 m high, and not judged where the road ends before the distance
+does. As in the report a station stands for the metre around it, and the share
+is of the judged ones.",
+        operands: Operands { names: &["FILE", "DISTANCE"], more: false },
+        options: &[],
+        run: answers::passing,
     },
     Command {
         name: "road",
@@ -186,6 +203,27 @@ grade.",
         operands: Operands { names: &["SPEED", "PURPOSE"], more: false },
         options: &[GRADE],
         run: answers::distance,
+    },
+    Command {
+        name: "passing-distance",
+        prints: "the distance to see before passing, in m",
+        details: "\
+How far a driver has to see to pass another car, by the older Green Books:
+d1 + d2 + d3 + d4, rounded up to 5 m. d1 = 0.278 t1 (v - m + a t1 / 2) is driven
+in the initial manoeuvre, d2 = 0.278 v t2 in the left lane; d3 is left to the
+oncoming car at the end, and d4, two thirds of d2, is what that car drives in
+the last two thirds of that time. The values are in the units of the Green
+Book's tables.",
+        operands: Operands { names: &[], more: false },
+        options: &[
+            needed("--t1", "S", "time of the initial manoeuvre, 3.6 to 4.5 s"),
+            needed("--a", "KMH/S", "average acceleration, 2.25 to 2.41 km/h/s"),
+            needed("--v", "KMH", "average speed of the passing car, 30 to 130 km/h"),
+            needed("--m", "KMH", "how much faster it is than the other, 10 to 20 km/h"),
+            needed("--t2", "S", "time in the left lane, 9.3 to 11.3 s"),
+            needed("--d3", "M", "clearance to the oncoming car, 30 to 90 m"),
+        ],
+        run: answers::passing_distance,
     },
     Command {
         name: "sheet",

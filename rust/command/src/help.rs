@@ -23,8 +23,8 @@ pub fn overview() -> String {
     let commands = rows(COMMANDS.iter().map(|command| (command.call(), command.prints)));
     format!(
         "\
-vcp: where a driver on a two-lane country road cannot see far enough to stop, or
-to decide.
+vcp: where a driver on a two-lane country road cannot see far enough to stop, to
+decide or to pass.
 
 usage: vcp COMMAND ...
        vcp COMMAND --help

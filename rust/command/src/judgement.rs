@@ -1,14 +1,43 @@
 //! What the proved functions say of a road file, or of heights.
 
-use exports::{Refusal, GREATEST_LISTING, MARKED_STATIONS, MOST_ENDS};
+use exports::{Refusal, GREATEST_LISTING, MARKED_STATIONS, MOST_ENDS, PASSING_LACKING_BIT, PASSING_NOT_JUDGED_BIT};
 
-use crate::purpose;
+use crate::{purpose, tables};
 
 /// The letters of the zones, in the order of their bits.
 const LETTERS: [u8; 5] = *b"SDRsd";
 
-/// The first and last stations of the zones of each letter.
-pub type Zones = [Vec<[u16; 2]>; 5];
+/// The first and last stations of zones, ascending.
+pub type Ends = Vec<[u16; 2]>;
+
+/// The zones of each letter.
+pub type Zones = [Ends; 5];
+
+/// The zones of a bit of marks.
+fn zones_of(marks: &[u8], bit: u32) -> Result<Ends, Refusal> {
+    let mut ends = [0; MOST_ENDS];
+    let many = exports::zones(marks, bit, &mut ends)? as usize;
+    Ok(ends[..2 * many].chunks_exact(2).map(|pair| [pair[0], pair[1]]).collect())
+}
+
+/// Where a road lacks passing sight over a distance, and where passing is not judged.
+pub struct Passing {
+    pub distance: u32,
+    /// The number of stations.
+    pub stations: u32,
+    pub zones: [Ends; 2],
+}
+
+impl Passing {
+    /// That of a road file for a passing distance.
+    pub fn of_road(file: &[u8], distance: u32) -> Result<Passing, Refusal> {
+        let heights = tables::heights_of(file)?;
+        let mut marks = vec![0; heights.len()];
+        let stations = exports::passing_marks(&heights, distance, &mut marks)?;
+        let zones = [zones_of(&marks, PASSING_LACKING_BIT)?, zones_of(&marks, PASSING_NOT_JUDGED_BIT)?];
+        Ok(Passing { distance, stations, zones })
+    }
+}
 
 /// The distances that are needed, and the zones.
 pub struct Judgement {
@@ -49,10 +78,8 @@ impl Judgement {
         let stopping = vcp::required_distance(speed, purpose::STOPPING, grade)?;
         let decision = vcp::required_distance(speed, purpose, grade)?;
         let mut zones = Zones::default();
-        let mut ends = [0; MOST_ENDS];
         for (bit, zones) in (0..).zip(&mut zones) {
-            let many = exports::zones(&marks, bit, &mut ends)? as usize;
-            zones.extend(ends[..2 * many].chunks_exact(2).map(|pair| [pair[0], pair[1]]));
+            *zones = zones_of(&marks, bit)?;
         }
         Ok(Judgement { speed, purpose, grade, stopping, decision, stations, zones })
     }

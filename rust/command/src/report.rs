@@ -1,23 +1,24 @@
 //! A judgement in words, in columns that line up.
 
-use picture::MEANINGS;
+use picture::{MEANINGS, PASSING_MEANINGS};
 use roadtext::decimal;
 
 use crate::columns::{lined_up, Row};
-use crate::judgement::Judgement;
+use crate::judgement::{Ends, Judgement, Passing};
 use crate::purpose;
-
-/// The places of the zones where sight is lacking and where it is not judged, for stopping and for the decision.
-const STOPPING: [usize; 2] = [0, 3];
-const DECISION: [usize; 2] = [1, 4];
 
 fn row<const MANY: usize>(items: [&str; MANY]) -> Row {
     items.map(str::to_string).to_vec()
 }
 
-/// How many stations the zones of a letter have.
-fn stations(judgement: &Judgement, zone: usize) -> u32 {
-    judgement.zones[zone].iter().map(|&[first, last]| u32::from(last - first) + 1).sum()
+/// The header of the sums over so many stations.
+fn sums_header(stations: u32) -> Row {
+    row([&format!("of {stations} stations"), "needed", "judged", "lacking", "share", "not judged"])
+}
+
+/// How many stations zones have.
+fn stations_in(zones: &Ends) -> u32 {
+    zones.iter().map(|&[first, last]| u32::from(last - first) + 1).sum()
 }
 
 /// A part of so many, in percent with one decimal, rounded.
@@ -32,43 +33,65 @@ fn share(part: u32, all: u32) -> String {
 }
 
 /// The row of a distance: at how many stations it is judged, lacking and not judged.
-fn sum(judgement: &Judgement, name: &str, distance: u32, [lacking, not_judged]: [usize; 2]) -> Row {
-    let [lacking, not_judged] = [lacking, not_judged].map(|zone| stations(judgement, zone));
-    let judged = judgement.stations - not_judged;
+fn sum(name: &str, distance: u32, stations: u32, [lacking, not_judged]: [&Ends; 2]) -> Row {
+    let [lacking, not_judged] = [lacking, not_judged].map(stations_in);
+    let judged = stations - not_judged;
     let [judged_word, lacking_word, not_judged_word] =
         [judged, lacking, not_judged].map(|stations| stations.to_string());
     vec![name.to_string(), format!("{distance} m"), judged_word, lacking_word, share(lacking, judged), not_judged_word]
 }
 
-/// The rows of a letter's zones.
-fn zone_rows(judgement: &Judgement, zone: usize, first_station: u32) -> Vec<Row> {
-    let name = MEANINGS[zone].to_string();
-    if judgement.zones[zone].is_empty() {
+/// The rows of the zones of one meaning.
+fn zone_rows(meaning: &str, zones: &Ends, first_station: u32) -> Vec<Row> {
+    let name = meaning.to_string();
+    if zones.is_empty() {
         return vec![vec![name, "nowhere".to_string()]];
     }
-    let zones = judgement.zones[zone].iter().map(|&[first, last]| {
+    let rows = zones.iter().map(|&[first, last]| {
         let [from, to] = [first, last].map(|station| (first_station + u32::from(station)).to_string());
         vec![name.clone(), from, to, format!("{} m", last - first + 1)]
     });
-    zones.collect()
+    rows.collect()
+}
+
+/// The zones of several meanings, below their header.
+fn zone_table(meanings: &[&str], zones: &[Ends], first_station: u32) -> String {
+    let mut rows = vec![row(["zone", "from", "to", "length"])];
+    rows.extend(meanings.iter().zip(zones).flat_map(|(meaning, zones)| zone_rows(meaning, zones, first_station)));
+    lined_up(&rows)
+}
+
+/// The words for the stations of what is reported.
+fn stretch(first_station: u32, stations: u32) -> String {
+    format!("from station {first_station} to {} (rising)", first_station + (stations - 1))
 }
 
 /// The report of what is judged under this name, from its first station on.
 pub fn report(name: &str, judgement: &Judgement, first_station: u32) -> String {
-    let Judgement { speed, purpose, grade, stopping, decision, stations, .. } = *judgement;
-    let last_station = first_station + (stations - 1);
+    let Judgement { speed, purpose, grade, stopping, decision, stations, ref zones } = *judgement;
+    let [stopping_lacking, decision_lacking, _, stopping_not_judged, decision_not_judged] = zones;
     let sums = [
-        row([&format!("of {stations} stations"), "needed", "judged", "lacking", "share", "not judged"]),
-        sum(judgement, "stopping sight", stopping, STOPPING),
-        sum(judgement, "decision sight", decision, DECISION),
+        sums_header(stations),
+        sum("stopping sight", stopping, stations, [stopping_lacking, stopping_not_judged]),
+        sum("decision sight", decision, stations, [decision_lacking, decision_not_judged]),
     ];
-    let mut zones = vec![row(["zone", "from", "to", "length"])];
-    zones.extend((0..MEANINGS.len()).flat_map(|zone| zone_rows(judgement, zone, first_station)));
     let (purpose, grade) = (purpose::name(purpose), decimal::write(grade.into(), 2, 2));
-    let stretch = format!("from station {first_station} to {last_station} (rising)");
     format!(
-        "{name}: {speed} km/h, {purpose}, marked with grade {grade} %, {stretch}\n\n{}\n{}",
+        "{name}: {speed} km/h, {purpose}, marked with grade {grade} %, {}\n\n{}\n{}",
+        stretch(first_station, stations),
         lined_up(&sums),
-        lined_up(&zones)
+        zone_table(&MEANINGS, zones, first_station)
+    )
+}
+
+/// The report of where a road under this name lacks passing sight.
+pub fn passing(name: &str, passing: &Passing) -> String {
+    let Passing { distance, stations, ref zones } = *passing;
+    let sums = [sums_header(stations), sum("passing sight", distance, stations, zones.each_ref())];
+    format!(
+        "{name}: passing sight over {distance} m, {}\n\n{}\n{}",
+        stretch(0, stations),
+        lined_up(&sums),
+        zone_table(&PASSING_MEANINGS, zones, 0)
     )
 }

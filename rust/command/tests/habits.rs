@@ -14,29 +14,56 @@ use std::thread;
 use common::{command, expect_error, folder, root, run, run_with, Ended};
 use sight_tests::random::Random;
 use sight_tests::reference::file::bytes;
+use sight_tests::reference::passing::RANGES;
 use sight_tests::roads::{self, EXAMPLE};
 
-/// The commands that read a road file, with what stands before its name.
-const OF_ROADS: [&[&str]; 6] = [&["list"], &["report"], &["heights"], &["sight"], &["plot"], &["text"]];
+/// Where a file's name stands in a call.
+const FILE: &str = "FILE";
+
+/// The commands that read a road file.
+const OF_ROADS: [&[&str]; 7] = [
+    &["list", FILE],
+    &["report", FILE],
+    &["heights", FILE],
+    &["sight", FILE],
+    &["plot", FILE],
+    &["passing", FILE, "320"],
+    &["text", FILE],
+];
 
 /// The commands that read something else.
-const CHECK: &[&str] = &["check", "--speed", "90", "--purpose", "1"];
-const ROAD: &[&str] = &["road"];
+const CHECK: &[&str] = &["check", "--speed", "90", "--purpose", "1", FILE];
+const ROAD: &[&str] = &["road", FILE];
 
 /// The commands that read nothing.
-const NUMBERS: [&[&str]; 4] = [
+const NUMBERS: [&[&str]; 5] = [
     &["distance", "80", "stopping"],
+    &["passing-distance", "--t1", "3.6", "--a", "2.25", "--v", "56.2", "--m", "15", "--t2", "9.3", "--d3", "30"],
     &["sheet"],
     &["crest", "--speed", "80", "--drop", "6.00"],
     &["sag", "--speed", "80", "--rise", "6.00"],
 ];
 
-const NAMES: [&str; 12] =
-    ["list", "report", "heights", "sight", "check", "plot", "road", "text", "distance", "sheet", "crest", "sag"];
+const NAMES: [&str; 14] = [
+    "list",
+    "report",
+    "heights",
+    "sight",
+    "check",
+    "plot",
+    "passing",
+    "road",
+    "text",
+    "distance",
+    "passing-distance",
+    "sheet",
+    "crest",
+    "sag",
+];
 
 /// A command on a file.
 fn on<'a>(command: &[&'a str], file: &'a str) -> Vec<&'a str> {
-    [command, &[file]].concat()
+    command.iter().map(|&word| if word == FILE { file } else { word }).collect()
 }
 
 /// A folder with a road file, its text and its heights, named so that each command has an input it answers for.
@@ -76,13 +103,13 @@ fn shipped_roads() {
         let (ended, bytes) = run_with(&folder, &arguments, b"");
         assert_eq!((ended.errors.as_str(), ended.status), ("", 0), "{arguments:?}");
         assert!(!bytes.is_empty(), "{arguments:?}");
-        let (file, others) = arguments.split_last().expect("arguments");
-        if folder.join(file).is_file() {
+        if let Some(file) = arguments.iter().find(|word| folder.join(word).is_file()) {
             let input = fs::read(folder.join(file)).expect("the input is there");
-            let (from_standard, its_bytes) = run_with(&folder, &on(others, "-"), &input);
-            let named = ended.output.replacen(&format!("{file}: 90 km/h"), "-: 90 km/h", 1);
+            let standard = arguments.iter().map(|word| if word == file { "-" } else { word });
+            let (from_standard, its_bytes) = run_with(&folder, &standard.collect::<Vec<_>>(), &input);
+            let named = ended.output.replacen(&format!("{file}: "), "-: ", 1);
             assert_eq!((from_standard.output, from_standard.status), (named, 0), "{arguments:?}");
-            assert!(bytes == its_bytes || ["report", "check"].contains(&arguments[0]), "{arguments:?}");
+            assert!(bytes == its_bytes || ["report", "check", "passing"].contains(&arguments[0]), "{arguments:?}");
         }
     }
     for name in ["example.vcp", "level.vcp", "three-crests.vcp"] {
@@ -320,6 +347,34 @@ fn help_is_true() {
         assert!(words(name).contains("at least 0.6 m for each km/h of the speed."), "{name}");
         common::expect(&folder, &[name, "--speed", "100", change, "0.01"], "60\n");
     }
+    for ((option, meaning, unit, decimals), range) in [
+        ("--t1", "time of the initial manoeuvre", "s", 1),
+        ("--a", "average acceleration", "km/h/s", 2),
+        ("--v", "average speed of the passing car", "km/h", 1),
+        ("--m", "how much faster it is than the other", "km/h", 1),
+        ("--t2", "time in the left lane", "s", 1),
+        ("--d3", "clearance to the oncoming car", "m", 0),
+    ]
+    .into_iter()
+    .zip(RANGES)
+    {
+        let [least, greatest] =
+            [range.start(), range.end()].map(|&end| roadtext::decimal::write(end.into(), decimals, 0));
+        let own = format!(" {meaning}, {least} to {greatest} {unit}");
+        assert!(row("passing-distance", option).ends_with(&own), "{option}{own}");
+    }
+    for part in [
+        "d1 + d2 + d3 + d4, rounded up to 5 m",
+        "d1 = 0.278 t1 (v - m + a t1 / 2)",
+        "d2 = 0.278 v t2",
+        "two thirds of d2",
+    ] {
+        assert!(words("passing-distance").contains(part), "{part}");
+    }
+    let rows = "two rows more: where passing sight is lacking, and where passing is not judged.";
+    assert!(words("plot").contains(rows) && words("passing").contains("a driver towards rising stations"));
+    let height = format!("eye and object being {} m high", roadtext::decimal::write(exports::EYE_HEIGHT.into(), 4, 2));
+    assert!(words("passing").contains(&height) && exports::EYE_HEIGHT == exports::PASSING_OBJECT_HEIGHT);
     let letters = ["S  stopping sight is lacking", "D  decision sight is lacking", "s  stopping is not judged"];
     for line in letters.into_iter().chain(["R  reduced decision zone", "d  the decision is not judged"]) {
         assert!(help("list").contains(&format!("\n  {line}")), "{line}");
@@ -334,7 +389,8 @@ fn help_is_true() {
 fn unknown_commands() {
     let folder = folder("habits_unknown");
     let names =
-        "commands: list, report, heights, sight, check, plot, road, text, distance, sheet, crest, sag; see vcp --help\n";
+        "commands: list, report, heights, sight, check, plot, passing, road, text, distance, passing-distance, sheet, \
+         crest, sag; see vcp --help\n";
     expect_error(&folder, &[], 2, &format!("vcp: a command is missing\n{names}"));
     for word in ["lists", "LIST", "--list", "", "-"] {
         expect_error(&folder, &[word], 2, &format!("vcp: there is no command {word:?}\n{names}"));
@@ -346,14 +402,18 @@ fn unknown_commands() {
 fn wrong_arguments() {
     let folder = folder("habits_wrong");
     for command in OF_ROADS {
-        common::expect_wrong(&folder, command, "FILE is missing");
+        common::expect_wrong(&folder, &command[..1], "FILE is missing");
         common::expect_wrong(&folder, &on(command, "--nothing"), "there is no option --nothing");
         common::expect_wrong(&folder, &on(command, "--a\nb\u{1b}[31m"), "there is no option --a\\nb\\u{1b}[31m");
         if !["list", "report"].contains(&command[0]) {
-            common::expect_wrong(&folder, &[command[0], "a", "b"], "\"b\" is one argument too many");
+            let more = [&on(command, "a")[..], &["b"]].concat();
+            common::expect_wrong(&folder, &more, "\"b\" is one argument too many");
+        }
+        if ["heights", "sight", "plot", "text"].contains(&command[0]) {
             common::expect_wrong(&folder, &[command[0], "a", "-o"], "-o needs OUT");
         }
     }
-    common::expect_wrong(&folder, CHECK, "HEIGHTS is missing");
-    common::expect_wrong(&folder, ROAD, "TEXT is missing");
+    common::expect_wrong(&folder, &["passing", "a"], "DISTANCE is missing");
+    common::expect_wrong(&folder, &CHECK[..5], "HEIGHTS is missing");
+    common::expect_wrong(&folder, &["road"], "TEXT is missing");
 }

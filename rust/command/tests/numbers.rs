@@ -1,4 +1,4 @@
-//! `vcp distance`, `vcp crest` and `vcp sag`, against the second calculation.
+//! `vcp distance`, `vcp passing-distance`, `vcp crest` and `vcp sag`, against the second calculation.
 
 mod common;
 
@@ -8,6 +8,7 @@ use common::{expect, expect_error, expect_wrong, folder, root, run};
 use sight_tests::random::Random;
 use sight_tests::reference::crest::{crest_length, Crest};
 use sight_tests::reference::distances::required_distance;
+use sight_tests::reference::passing::{passing_distance, RANGES};
 use sight_tests::reference::sag::{sag_length, Sag};
 use sight_tests::reference::Answer;
 use sight_tests::tally::Tally;
@@ -175,6 +176,74 @@ fn compare(random: &mut Random, command: &str, mut options: Vec<[&str; 2]>, expe
     expected
 }
 
+/// The six values in and out of their ranges, in any order, with or without the zeros that may be left out.
+#[test]
+fn random_passing_distances() {
+    let mut random = Random::new(101);
+    let mut tally = Tally::default();
+    for _ in 0..600 {
+        let six = RANGES.map(|range| match random.within(0..=19) {
+            0 => random.one_of(&[0, range.start() - 1, range.end() + 1, 99_999]),
+            1 => random.one_of(&[*range.start(), *range.end()]),
+            _ => random.within(range),
+        });
+        let [t1, a, v, m, t2, d3] = six;
+        let shorter = |text: String| text.strip_suffix(".0").map_or(text.clone(), str::to_string);
+        let [t1, v, m, t2] = [t1, v, m, t2].map(|tenths| shorter(decimal(tenths, 10, 1)));
+        let (a, d3) = (decimal(a, 100, 2), d3.to_string());
+        let options = vec![["--t1", &t1], ["--a", &a], ["--v", &v], ["--m", &m], ["--t2", &t2], ["--d3", &d3]];
+        tally.count(compare(&mut random, "passing-distance", options, passing_distance(six)));
+    }
+    assert!(tally.numbers() > 100 && tally.refused(24) > 100);
+}
+
+/// The values of a manoeuvre that are given, as options.
+fn manoeuvre<'a>(changed: &'a str, value: &'a str) -> Vec<&'a str> {
+    let six = [("--t1", "3.6"), ("--a", "2.25"), ("--v", "56.2"), ("--m", "15"), ("--t2", "9.3"), ("--d3", "30")];
+    let options = six.into_iter().flat_map(|(name, own)| [name, if name == changed { value } else { own }]);
+    ["passing-distance"].into_iter().chain(options).collect()
+}
+
+/// The whole line, and what is missing, out of range or no number.
+#[test]
+fn lines_of_a_passing_distance() {
+    let folder = folder("passing_distance_lines");
+    expect(&folder, &manoeuvre("", ""), "320\n");
+    expect(&folder, &manoeuvre("--m", "15.0"), "320\n");
+    let ends = |place: usize, unit: u32, digits: usize| {
+        let end = |number: u32| {
+            let text = decimal(number, unit, digits);
+            text.strip_suffix(".0").map_or(text.clone(), str::to_string)
+        };
+        format!("not {} to {}", end(*RANGES[place].start()), end(*RANGES[place].end()))
+    };
+    let [t1, v, m, t2] = [0, 2, 3, 4].map(|place| ends(place, 10, 1));
+    let (a, d3) = (ends(1, 100, 2), ends(5, 1, 1));
+    let refused = &format!(
+        "vcp passing-distance: refused 24: of the manoeuvre t1 is {t1} s, a {a} km/h/s, v {v} km/h, m {m} km/h, \
+         t2 {t2} s or d3 {d3} m\n"
+    );
+    for (option, value) in
+        [("--t1", "3.5"), ("--a", "2.42"), ("--v", "429496729.6"), ("--m", "20.1"), ("--t2", "0"), ("--d3", "91")]
+    {
+        expect_error(&folder, &manoeuvre(option, value), 1, refused);
+    }
+    for (option, value, reason) in [
+        ("--t1", "3.65", "--t1: \"3.65\" has more than 1 decimal"),
+        ("--a", "2.255", "--a: \"2.255\" has more than 2 decimals"),
+        ("--v", "-56.2", "--v: \"-56.2\" is negative"),
+        ("--d3", "30.5", "--d3: \"30.5\" is not whole"),
+        ("--m", "", "--m: the number is missing"),
+    ] {
+        expect_wrong(&folder, &manoeuvre(option, value), reason);
+    }
+    let all = manoeuvre("", "");
+    for option in (1..all.len()).step_by(2) {
+        let others = [&all[..option], &all[option + 2..]].concat();
+        expect_wrong(&folder, &others, &format!("{} is missing", all[option]));
+    }
+}
+
 /// With a sight distance, and without one, for which the stopping distance of the speed is taken: where the speed is refused
 /// there is none, and none is needed.
 #[test]
@@ -334,11 +403,11 @@ fn calls_of_the_readme() {
     for row in readme.lines().filter_map(|line| line.strip_prefix("| `vcp ")) {
         let (call, rest) = row.split_once('`').expect("a call ends with a backquote");
         let arguments: Vec<&str> = call.split(' ').collect();
-        if ["distance", "crest", "sag"].contains(&arguments[0]) {
+        if ["distance", "passing-distance", "crest", "sag"].contains(&arguments[0]) {
             let shown = rest.split(": ").find_map(|part| part.split([';', ' ']).next()?.parse().ok());
             assert_eq!(answer(&arguments).ok(), shown, "{call}");
             found.push(arguments[0]);
         }
     }
-    assert_eq!(found, ["distance", "crest", "sag"]);
+    assert_eq!(found, ["distance", "passing-distance", "crest", "sag"]);
 }

@@ -4,7 +4,7 @@ mod common;
 
 use std::fs;
 
-use common::{expect, expect_error, folder, names, root, run_with};
+use common::{expect, expect_error, expect_wrong, folder, names, root, run_with};
 use sight_tests::drawn::Drawn;
 use sight_tests::random::Random;
 use sight_tests::reference::file::bytes;
@@ -23,6 +23,41 @@ fn random_roads() {
         assert_eq!((ended.errors.as_str(), ended.status), ("", 0), "{road:?}");
         assert!(ended.output == Drawn::of(&road).picture(&road), "{road:?}");
     }
+}
+
+/// The same with rows for passing, for distances to the road's end and beyond.
+#[test]
+fn random_roads_with_passing() {
+    let folder = folder("plot_passing");
+    let mut random = Random::new(102);
+    let (mut lacking, mut not_judged) = (0, 0);
+    for round in 0..100 {
+        let room = random.within(80..=300);
+        let crests = roads::steeper(roads::run_of_crests(&mut random, room));
+        let road = if round % 2 == 0 { crests } else { roads::any_road(&mut random) };
+        let distance = if random.once_in(10) { 8_000 } else { random.within(15..=45) };
+        let ended = run_with(&folder, &["plot", "-", "--passing", &distance.to_string()], &bytes(&road)).0;
+        assert_eq!((ended.errors.as_str(), ended.status), ("", 0), "{road:?}");
+        let drawn = Drawn::of(&road);
+        assert!(ended.output == drawn.picture_with_passing(&road, distance), "{distance} m, {road:?}");
+        let zones = drawn.passing_zones(distance);
+        lacking += zones[0].len();
+        not_judged += zones[1].len();
+    }
+    assert!(lacking > 20 && not_judged > 50, "{lacking} zones lacking, {not_judged} not judged");
+}
+
+/// A passing distance that is refused, or is none.
+#[test]
+fn refused_passing_distances() {
+    let folder = folder("plot_passing_refused");
+    fs::copy(root().join("roads/three-crests.vcp"), folder.join("a.vcp")).unwrap();
+    let line = "a.vcp: refused 21: the farthest or the passing distance is not 1 to 8,000 m\n";
+    for distance in ["0", "8001", "4294967297"] {
+        expect_error(&folder, &["plot", "a.vcp", "--passing", distance, "-o", "a.svg"], 1, line);
+    }
+    expect_wrong(&folder, &["plot", "a.vcp", "--passing", "3.2"], "--passing: \"3.2\" is not whole");
+    assert_eq!(names(&folder), ["a.vcp"]);
 }
 
 /// The README's picture, to standard output and into a file.

@@ -4,7 +4,7 @@ mod common;
 
 use std::fs;
 
-use common::{expect, expect_error, expect_wrong, folder, root, run, run_with, Ended};
+use common::{expect, expect_error, expect_wrong, folder, root, run, run_with, share, Ended};
 use sight_tests::random::Random;
 use sight_tests::reference::distances::required_distance;
 use sight_tests::reference::file::bytes;
@@ -98,16 +98,6 @@ fn read_back(name: &str, report: &str) -> Said {
         shares: [stopping.1, decision.1],
         zones,
     }
-}
-
-/// A share in percent with one decimal, to the nearest tenth, halves up.
-fn share(lacking: u32, judged: u32) -> String {
-    if judged == 0 {
-        return "-".to_string();
-    }
-    let tenths = (0..=1_000).rev().find(|tenths| (2 * tenths - 1) * judged as i64 <= 2_000 * i64::from(lacking));
-    let tenths = tenths.expect("a share is not negative");
-    format!("{}.{} %", tenths / 10, tenths % 10)
 }
 
 /// A grade in percent, written another way than the command does.

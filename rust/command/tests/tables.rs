@@ -169,7 +169,7 @@ fn refused_options() {
     let folder = folder("tables_refused");
     fs::copy(root().join("roads/level.vcp"), folder.join("a.vcp")).expect("the road ships with the repository");
     let height = "a.vcp: refused 17: the height of eye or object is not 1 to 50,000 h-units (0.0001 to 5 m)\n";
-    let farthest = "a.vcp: refused 21: the farthest distance is not 1 to 8,000 m\n";
+    let farthest = "a.vcp: refused 21: the farthest or the passing distance is not 1 to 8,000 m\n";
     for (name, value, line) in [
         ("--eye", "0", height),
         ("--eye", "5.0001", height),

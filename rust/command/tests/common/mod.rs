@@ -88,3 +88,13 @@ pub fn expect_wrong(folder: &Path, arguments: &[&str], reason: &str) {
     assert_eq!(lines[0], format!("vcp {name}: {reason}"), "{arguments:?}");
     assert!(lines[1].starts_with(&format!("usage: vcp {name} ")), "{arguments:?}: {lines:?}");
 }
+
+/// A share in percent with one decimal, to the nearest tenth, halves up.
+pub fn share(lacking: u32, judged: u32) -> String {
+    if judged == 0 {
+        return "-".to_string();
+    }
+    let tenths = (0..=1_000).rev().find(|tenths| (2 * tenths - 1) * judged as i64 <= 2_000 * i64::from(lacking));
+    let tenths = tenths.expect("a share is not negative");
+    format!("{}.{} %", tenths / 10, tenths % 10)
+}
