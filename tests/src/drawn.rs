@@ -2,10 +2,11 @@
 
 use std::array;
 
-use picture::{svg, Curve, Profile};
+use picture::{svg, Curve, Passing, Profile};
 
 use crate::reference::distances::required_distance;
 use crate::reference::marks::{marks, runs};
+use crate::reference::passing::passing_marks;
 use crate::reference::road::{heights, marking_grade, Road};
 
 /// The grade that an accepted road is marked with, the distances for stopping and for the decision, the curves, the heights
@@ -40,10 +41,10 @@ impl Drawn {
         }
     }
 
-    /// The picture of the road.
-    pub fn picture(&self, road: &Road) -> String {
+    /// What is handed over of the road, and of passing.
+    pub fn profile<'a>(&'a self, road: &Road, passing: Option<Passing<'a>>) -> Profile<'a> {
         let [stopping, decision] = self.distances;
-        svg(&Profile {
+        Profile {
             speed: road.speed.into(),
             purpose: road.purpose.into(),
             grade: self.grade,
@@ -53,6 +54,25 @@ impl Drawn {
             curves: &self.curves,
             heights: &self.heights,
             zones: &self.zones,
-        })
+            passing,
+        }
+    }
+
+    /// The picture of the road.
+    pub fn picture(&self, road: &Road) -> String {
+        svg(&self.profile(road, None))
+    }
+
+    /// The zones where passing sight of so many metres is lacking, and those where passing is not judged.
+    pub fn passing_zones(&self, distance: u32) -> [Vec<[u16; 2]>; 2] {
+        let mut marked = vec![0; self.heights.len()];
+        passing_marks(&self.heights, distance, &mut marked).expect("the heights are marked");
+        [5, 6].map(|bit| runs(&marked, bit))
+    }
+
+    /// The picture of the road with the rows of passing, for a distance in metres.
+    pub fn picture_with_passing(&self, road: &Road, distance: u32) -> String {
+        let zones = &self.passing_zones(distance);
+        svg(&self.profile(road, Some(Passing { distance, zones })))
     }
 }

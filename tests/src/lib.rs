@@ -6,6 +6,7 @@ use exports::Refusal;
 use crate::reference::Answer;
 
 pub mod drawn;
+pub mod heights;
 pub mod lent;
 pub mod lister;
 pub mod pages;

@@ -32,6 +32,16 @@ impl Random {
         range.start().wrapping_add_unsigned(above)
     }
 
+    /// A number of the range, one at or just beyond an edge of it, or anything.
+    pub fn in_or_out_of(&mut self, range: RangeInclusive<u32>) -> u32 {
+        let (&least, &greatest) = (range.start(), range.end());
+        match self.within(0..=9) {
+            0 => self.one_of(&[least - 1, least, greatest, greatest + 1]),
+            1 => self.bits() as u32,
+            _ => self.within(range),
+        }
+    }
+
     /// True once in so many times.
     pub fn once_in(&mut self, times: u32) -> bool {
         self.within(1..=times) == 1

@@ -105,6 +105,13 @@ pub fn one_curve(random: &mut Random, room: u32) -> Road {
     road
 }
 
+/// One crest where the grade falls by a drop, between straights of so many metres.
+pub fn one_crest(first_grade: i16, drop: i16, length: u16, straight: u32) -> Road {
+    let pvi = straight + u32::from(length) / 2;
+    let curves = vec![Curve { pvi, length, grade_out: first_grade - drop }];
+    Road { speed: 90, purpose: 1, length: 2 * pvi, start_height: 0, first_grade, curves }
+}
+
 /// Few curves of any length, with long straights between.
 pub fn sparse(random: &mut Random, room: u32) -> Road {
     let curves = random.within(0..=6);
@@ -124,6 +131,14 @@ pub fn longest(random: &mut Random) -> Road {
 pub fn gentler(road: Road, times: i16) -> Road {
     let curves = road.curves.iter().map(|&curve| Curve { grade_out: curve.grade_out / times, ..curve }).collect();
     Road { first_grade: road.first_grade / times, curves, ..road }
+}
+
+/// The same road with each grade as far from the steepest as it was from the level, so that most are steep: its
+/// crests are high enough to hide a car.
+pub fn steeper(road: Road) -> Road {
+    let steep = |grade: i16| if grade < 0 { -1_500 - grade } else { 1_500 - grade };
+    let curves = road.curves.iter().map(|&curve| Curve { grade_out: steep(curve.grade_out), ..curve }).collect();
+    Road { first_grade: steep(road.first_grade), curves, ..road }
 }
 
 /// A road of any of the kinds above, most of them short.

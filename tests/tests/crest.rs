@@ -1,7 +1,5 @@
 //! docs/RULES.md, "How long a crest must be".
 
-use std::ops::RangeInclusive;
-
 use sight_tests::bare;
 use sight_tests::random::Random;
 use sight_tests::reference::crest::{crest_length, least_adequate, Crest};
@@ -306,20 +304,12 @@ fn random_crests_within_the_ranges() {
 /// Each number is within its range, at or just beyond an edge of it, or anything.
 #[test]
 fn random_crests_in_and_out_of_the_ranges() {
-    fn draw(random: &mut Random, range: RangeInclusive<u32>) -> u32 {
-        let (&least, &greatest) = (range.start(), range.end());
-        match random.within(0..=9) {
-            0 => random.one_of(&[least - 1, least, greatest, greatest + 1]),
-            1 => random.bits() as u32,
-            _ => random.within(range),
-        }
-    }
     let mut random = Random::new(2);
     let mut tally = Tally::default();
     for _ in 0..200_000 {
-        let speed = draw(&mut random, 20..=130);
-        let (drop, sight) = (draw(&mut random, 1..=3_000), draw(&mut random, 1..=800));
-        let (eye, object) = (draw(&mut random, 1..=50_000), draw(&mut random, 1..=50_000));
+        let speed = random.in_or_out_of(20..=130);
+        let (drop, sight) = (random.in_or_out_of(1..=3_000), random.in_or_out_of(1..=800));
+        let (eye, object) = (random.in_or_out_of(1..=50_000), random.in_or_out_of(1..=50_000));
         tally.count(compare(at(speed, crest(drop, sight, eye, object))));
     }
     assert!(tally.numbers() > 20_000, "{} numbers", tally.numbers());

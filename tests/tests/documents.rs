@@ -123,7 +123,7 @@ fn theorems_are_held_in_place() {
             found += 1;
         }
     }
-    assert!(found >= 7, "{found} theorems");
+    assert!(found >= 8, "{found} theorems");
 }
 
 /// Each `crate::function` that these documents name is a public one of that crate.
@@ -157,7 +157,10 @@ fn every_contract_is_in_the_table() {
     assert!(named.is_subset(&functions), "{:?}", named.difference(&functions));
     let left: BTreeSet<&str> =
         functions.difference(&named).map(|function| function.split("::").next().unwrap_or_default()).collect();
-    assert_eq!(left, BTreeSet::from(["curve_exports", "listing_exports", "marks_exports", "sight_exports"]));
+    assert_eq!(
+        left,
+        BTreeSet::from(["curve_exports", "listing_exports", "marks_exports", "passing_exports", "sight_exports"])
+    );
 }
 
 /// An edit as the table of wrong answers has it: its name, and what it changes.

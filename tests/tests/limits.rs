@@ -32,6 +32,8 @@ fn limits_of_the_exports() {
     assert_eq!(exports::GREATEST_SPEED as usize, number(TERMS, "GREATEST_SPEED"));
     assert_eq!(exports::EYE_HEIGHT as usize, number(TERMS, "EYE_HEIGHT"));
     assert_eq!(exports::OBJECT_HEIGHT as usize, number(TERMS, "OBJECT_HEIGHT"));
+    assert_eq!(exports::PASSING_OBJECT_HEIGHT as usize, number(TERMS, "PASSING_OBJECT_HEIGHT"));
+    assert_eq!(exports::PASSING_NOT_JUDGED_BIT as usize, number(TERMS, "LAST_BIT"));
     assert_eq!(constant(LISTING, "MOST_ZONES"), "(terms::MARKED_STATIONS + 1) / 2");
     assert_eq!(constant(LISTING, "GREATEST_LISTING"), "22 + 14 * MOST_ZONES * LETTERS as usize");
     assert_eq!(exports::GREATEST_LISTING, 22 + 14 * marked_stations().div_ceil(2) * number(LISTING, "LETTERS"));

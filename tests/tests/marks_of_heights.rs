@@ -1,6 +1,7 @@
 //! docs/RULES.md, "Marks and zones": the marks of lent heights.
 
 use sight_tests::bare;
+use sight_tests::heights;
 use sight_tests::lent;
 use sight_tests::random::Random;
 use sight_tests::reference::file::bytes;
@@ -44,14 +45,6 @@ fn compare_all(random: &mut Random, drive: Drive, heights: &[i32]) -> Vec<u8> {
     marks
 }
 
-/// The heights of a road file.
-fn heights_of(file: &[u8]) -> Vec<i32> {
-    let mut heights = vec![0; exports::ROAD_STATIONS];
-    let stations = exports::file_heights(file, &mut heights).expect("the road is accepted");
-    heights.truncate(stations as usize);
-    heights
-}
-
 /// Every bit of every mark says what its letter stands for, by the distances for stopping and for the decision.
 fn expect_bits(marks: &[u8], heights: &[i32], stopping: usize, decision: usize) {
     let (whole, last) = (whole_heights(heights), heights.len() - 1);
@@ -74,7 +67,7 @@ fn expect_bits(marks: &[u8], heights: &[i32], stopping: usize, decision: usize) 
 #[test]
 fn bits_of_the_example() {
     let mut random = Random::new(22);
-    let heights = heights_of(&EXAMPLE);
+    let heights = heights::of_file(&EXAMPLE);
     for (grade, stopping, reduced) in [(0, 20, 6), (-1_500, 25, 0)] {
         let marks = compare_all(&mut random, Drive { grade, ..SLOW }, &heights);
         expect_bits(&marks, &heights, stopping, 25);
@@ -96,7 +89,7 @@ fn bits_where_stopping_needs_more_than_the_decision() {
         curves: vec![Curve { pvi: 540, length: 20, grade_out: -1_500 }],
     };
     let (file, drive) = (bytes(&road), Drive { speed: 130, purpose: 3, grade: -1_500 });
-    let heights = heights_of(&file);
+    let heights = heights::of_file(&file);
     let mut marks = vec![0; heights.len()];
     assert_eq!(vcp::mark_road_file(&file, &mut marks), Ok(951));
     assert_eq!(marks, compare_all(&mut Random::new(46), drive, &heights));
@@ -113,32 +106,6 @@ fn bits_where_stopping_needs_more_than_the_decision() {
     }
 }
 
-/// A straight with steps up and down and with short humps close behind each other, which no road's heights have.
-fn uneven(random: &mut Random, stations: usize) -> Vec<i32> {
-    let grade = random.signed_within(-1_500..=1_500);
-    let mut ground = random.signed_within(-1_000_000..=1_000_000);
-    let mut heights = Vec::new();
-    while heights.len() < stations {
-        if random.once_in(8) {
-            ground += random.signed_within(-15_000..=15_000);
-        }
-        let hump = if random.once_in(4) { random.of_any_size(30_000) as i32 } else { 0 };
-        for _ in 0..random.within(1..=6) {
-            ground += grade;
-            heights.push(ground + hump);
-        }
-    }
-    heights.truncate(stations);
-    heights
-}
-
-/// Heights of any value; one of them is the least or the greatest.
-fn any_heights(random: &mut Random, stations: usize) -> Vec<i32> {
-    let mut heights = random.list(stations, |bits| bits as i32);
-    heights[random.within(0..=stations as u32 - 1) as usize] = random.one_of(&[i32::MIN, i32::MAX]);
-    heights
-}
-
 #[test]
 fn random_heights() {
     let mut random = Random::new(37);
@@ -146,8 +113,8 @@ fn random_heights() {
     for round in 0..5_000 {
         let stations = random.within(1..=120) as usize;
         let heights = match round % 10 {
-            0 => any_heights(&mut random, stations),
-            _ => uneven(&mut random, stations),
+            0 => heights::of_any_value(&mut random, stations),
+            _ => heights::uneven(&mut random, stations),
         };
         // A third are on the level, and some of these fast: at low speed the two formulas seldom differ.
         let grade = if round % 3 == 0 { 0 } else { random.signed_within(-1_500..=1_500) };
@@ -162,7 +129,7 @@ fn random_heights() {
 #[test]
 fn longest_list() {
     let mut random = Random::new(38);
-    let heights = uneven(&mut random, 8_001);
+    let heights = heights::uneven(&mut random, 8_001);
     compare_all(&mut random, SLOW, &heights);
 }
 

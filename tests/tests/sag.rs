@@ -60,7 +60,7 @@ fn aashto(rise: u32, sight: u32) -> Fraction {
     let (a, s) = (Fraction::new(rise.into(), 100), Fraction::from(sight));
     let headlights = Fraction::whole(120) + Fraction::new(35, 10) * s;
     let longer = a * s * s / headlights;
-    let shorter = Fraction::whole(2) * s + Fraction::whole(-1) * (headlights / a);
+    let shorter = Fraction::whole(2) * s - headlights / a;
     assert_eq!(longer < s, shorter < s, "rise {rise}, sight {sight}");
     if longer < s {
         shorter

@@ -2,10 +2,10 @@
 //! straights.
 
 use sight_tests::bare;
+use sight_tests::heights;
 use sight_tests::lent;
 use sight_tests::random::Random;
 use sight_tests::reference::distances::required_distance;
-use sight_tests::reference::file::bytes;
 use sight_tests::reference::marks::{EYE, OBJECT};
 use sight_tests::reference::road::{exact_heights, marking_grade, stored_height, Road};
 use sight_tests::reference::sight::{
@@ -59,13 +59,6 @@ fn compare_all(random: &mut Random, heights: &[i32], look: Look) -> Vec<u16> {
         );
     }
     sights
-}
-
-/// The heights of an accepted road, as the program fills them.
-fn program_heights(road: &Road) -> Vec<i32> {
-    let mut heights = vec![0; road.length as usize + 1];
-    assert_eq!(exports::file_heights(&bytes(road), &mut heights), Ok(road.length + 1), "{road:?}");
-    heights
 }
 
 #[test]
@@ -166,7 +159,7 @@ fn random_runs_of_short_crests() {
         let room = random.within(2..=80);
         let road = roads::run_of_crests(&mut random, room);
         let road = roads::gentler(road, random.one_of(&[1, 1, 1, 100]));
-        let heights = program_heights(&road);
+        let heights = heights::of_road(&road);
         let look = if random.once_in(4) { look(EYE, OBJECT, 80) } else { any_look(&mut random, 100) };
         let sights = compare_all(&mut random, &heights, look);
         met.count(&heights, look, &sights);
@@ -187,7 +180,7 @@ fn random_runs_of_short_crests() {
 fn longest_list() {
     let mut random = Random::new(16);
     let road = roads::longest(&mut random);
-    let heights = program_heights(&road);
+    let heights = heights::of_road(&road);
     assert_eq!(heights.len(), 8_001);
     compare_all(&mut random, &heights, look(EYE, OBJECT, 30));
     // On a straight everything is seen, up to the greatest of the farthest distances.
@@ -286,7 +279,7 @@ fn accuracy_rule() {
         let object = random.one_of(&[1, 2, 5, 50, 500, OBJECT, 50_000]);
         let look = look(eye, object, random.one_of(&[60, 60, 20, 8_000]));
         let mut sights = vec![0; road.length as usize + 1];
-        assert_eq!(exports::sight_profile(&program_heights(&road), asked(look), &mut sights), Ok(road.length + 1));
+        assert_eq!(exports::sight_profile(&heights::of_road(&road), asked(look), &mut sights), Ok(road.length + 1));
         let exact = exact_heights(&road);
         let lower = Look { eye: eye - 1, object: object - 1, ..look };
         let higher = Look { eye: eye + 1, object: object + 1, ..look };
@@ -395,7 +388,7 @@ fn hump_behind_a_short_crest() {
     let look = look(EYE, OBJECT, required);
     let station = 194;
 
-    let heights = program_heights(&road);
+    let heights = heights::of_road(&road);
     let stored: Vec<i32> = (0..=road.length).map(|station| stored_height(&road, station)).collect();
     assert_eq!(heights, stored);
     let whole = whole_heights(&stored);
@@ -423,7 +416,7 @@ fn turning_in_time_reads_the_stored_heights() {
     for _ in 0..2_000 {
         let room = random.within(2..=200);
         let road = roads::run_of_crests(&mut random, room);
-        let whole = whole_heights(&program_heights(&road));
+        let whole = whole_heights(&heights::of_road(&road));
         assert_eq!(heights_read(&road, Turn::BeforeTheStation), whole, "{road:?}");
         late += usize::from(heights_read(&road, Turn::AfterTheStation) != whole);
     }

@@ -6,6 +6,9 @@ use sight_tests::random::Random;
 use sight_tests::reference::marks::{runs, zones};
 use sight_tests::reference::Answer;
 
+/// The last bit that zones are asked for.
+const LAST_BIT: u32 = 6;
+
 /// The program writes zones into `places` numbers just as the second calculation does, and the rest stays.
 fn compare(random: &mut Random, marks: &[u8], bit: u32, places: usize) -> (Answer, Vec<u16>) {
     let proved = |list: &mut [u16]| bare(exports::zones(marks, bit, list));
@@ -38,7 +41,7 @@ fn random_marks() {
         // In every second list a bit is seldom set, and in the others it is seldom missing.
         let joined = |(mark, other): (&u8, &u8)| if round % 2 == 0 { mark & other } else { mark | other };
         let marks: Vec<u8> = marks.iter().zip(&others).map(joined).collect();
-        for bit in 0..5 {
+        for bit in 0..=LAST_BIT {
             let zones = compare_all(&mut random, &marks, bit);
             for (station, mark) in (0..).zip(&marks) {
                 let within = zones.iter().filter(|[first, last]| (*first..=*last).contains(&station)).count();
@@ -55,7 +58,7 @@ fn random_marks() {
 #[test]
 fn longest_list() {
     let mut random = Random::new(34);
-    for bit in 0..5 {
+    for bit in 0..=LAST_BIT {
         let with = 1 << bit;
         assert_eq!(compare_all(&mut random, &[with; 8_001], bit), [[0, 8_000]]);
         assert_eq!(compare_all(&mut random, &[!with; 8_001], bit), [[0; 2]; 0]);
@@ -67,8 +70,11 @@ fn longest_list() {
 #[test]
 fn refusals_at_each_edge() {
     let mut random = Random::new(35);
-    for (bit, answer) in [(0, Ok(1)), (4, Ok(1)), (5, Err(22)), (8, Err(22)), (32, Err(22)), (u32::MAX, Err(22))] {
-        assert_eq!(compare(&mut random, &[0xFF; 20], bit, 2).0, answer, "bit {bit}");
+    for bit in 0..=LAST_BIT {
+        assert_eq!(compare(&mut random, &[0xFF; 20], bit, 2).0, Ok(1), "bit {bit}");
+    }
+    for bit in [7, 8, 32, 256, 65_536, u32::MAX] {
+        assert_eq!(compare(&mut random, &[0xFF; 20], bit, 2).0, Err(22), "bit {bit}");
     }
     for (stations, answer) in [(0, Err(19)), (1, Ok(1)), (8_001, Ok(1)), (8_002, Err(19))] {
         assert_eq!(compare(&mut random, &vec![0xFF; stations], 0, 2).0, answer, "{stations} stations");
@@ -84,10 +90,10 @@ fn refusals_at_each_edge() {
 fn refusals_in_order() {
     let mut random = Random::new(36);
     for (bit, stations, places, answer) in [
-        (5, 8_002, 1, Err(22)),
-        (5, 8_002, 2, Err(22)),
-        (5, 0, 0, Err(22)),
-        (5, 20, 1, Err(22)),
+        (7, 8_002, 1, Err(22)),
+        (7, 8_002, 2, Err(22)),
+        (7, 0, 0, Err(22)),
+        (7, 20, 1, Err(22)),
         (0, 8_002, 1, Err(19)),
         (0, 0, 0, Err(19)),
         (0, 20, 1, Err(23)),

@@ -1,7 +1,7 @@
 //! Exact fractions of whole numbers.
 
 use std::cmp::Ordering;
-use std::ops::{Add, Div, Mul};
+use std::ops::{Add, Div, Mul, Sub};
 
 /// A fraction; its denominator is positive.
 #[derive(Clone, Copy, Debug)]
@@ -39,6 +39,13 @@ impl Add for Fraction {
             self.numerator * other.denominator + other.numerator * self.denominator,
             self.denominator * other.denominator,
         )
+    }
+}
+
+impl Sub for Fraction {
+    type Output = Fraction;
+    fn sub(self, other: Fraction) -> Fraction {
+        self + Fraction::whole(-1) * other
     }
 }
 

@@ -3,7 +3,7 @@
 use super::distances::required_distance;
 use super::file::read;
 use super::road::{marking_grade, stored_height};
-use super::sight::{available_sight, list_verdict, whole_heights, Look};
+use super::sight::{available_sight, fill, list_verdict, Look};
 use super::Answer;
 
 /// 1.08 m and 0.60 m (source document 002), in h-units.
@@ -12,18 +12,19 @@ pub const OBJECT: u32 = 6_000;
 
 /// The verdict on a station for one required distance.
 #[derive(Clone, Copy, PartialEq)]
-enum Finding {
+pub(super) enum Finding {
     NotJudged,
     Lacking,
     There,
 }
 
-fn finding(heights: &[i64], i: usize, required: u32) -> Finding {
-    let look = Look { eye: EYE, object: OBJECT, farthest: required };
+/// The verdict on a station with a look whose farthest distance is the required one.
+pub(super) fn finding(heights: &[i64], i: usize, look: Look) -> Finding {
+    let required = look.farthest as usize;
     let last = heights.len() - 1;
-    if i + required as usize > last {
+    if i + required > last {
         Finding::NotJudged
-    } else if available_sight(heights, look, i) < required as usize {
+    } else if available_sight(heights, look, i) < required {
         Finding::Lacking
     } else {
         Finding::There
@@ -32,7 +33,8 @@ fn finding(heights: &[i64], i: usize, required: u32) -> Finding {
 
 /// A station's byte, from the distances required for stopping and for the decision.
 pub fn mark(heights: &[i64], i: usize, stopping: u32, decision: u32) -> u8 {
-    let [stopping, decision] = [stopping, decision].map(|required| finding(heights, i, required));
+    let look = |required: u32| Look { eye: EYE, object: OBJECT, farthest: required };
+    let [stopping, decision] = [stopping, decision].map(|required| finding(heights, i, look(required)));
     let bits = [
         stopping == Finding::Lacking,
         decision == Finding::Lacking,
@@ -53,14 +55,7 @@ pub fn marks(speed: u32, purpose: u32, grade: i32, heights: &[i32], list: &mut [
     let stopping = required_distance(speed, 0, grade)?;
     let decision = required_distance(speed, purpose, grade)?;
     list_verdict(heights.len())?;
-    if list.len() < heights.len() {
-        return Err(14);
-    }
-    let whole = whole_heights(heights);
-    for (i, place) in list[..heights.len()].iter_mut().enumerate() {
-        *place = mark(&whole, i, stopping, decision);
-    }
-    Ok(heights.len() as u32)
+    fill(heights, list, |heights, i| mark(heights, i, stopping, decision))
 }
 
 pub fn mark_road_file(file: &[u8], list: &mut [u8]) -> Answer {
@@ -78,7 +73,7 @@ pub fn runs(marks: &[u8], bit: u32) -> Vec<[u16; 2]> {
 }
 
 pub fn zones(marks: &[u8], bit: u32, list: &mut [u16]) -> Answer {
-    if bit > 4 {
+    if bit > 6 {
         return Err(22);
     }
     list_verdict(marks.len())?;

@@ -8,6 +8,7 @@ pub mod fraction;
 pub mod lengths;
 pub mod listing;
 pub mod marks;
+pub mod passing;
 pub mod road;
 pub mod sag;
 pub mod sight;

@@ -57,15 +57,34 @@ pub fn list_verdict(places: usize) -> Result<(), u32> {
     }
 }
 
+/// Refusal 21.
+pub(super) fn farthest_verdict(farthest: u32) -> Result<(), u32> {
+    if (1..=8_000).contains(&farthest) {
+        Ok(())
+    } else {
+        Err(21)
+    }
+}
+
 /// Refusals 17 and 21.
 fn look_verdict(look: Look) -> Result<(), u32> {
     if !(1..=50_000).contains(&look.eye) || !(1..=50_000).contains(&look.object) {
         return Err(17);
     }
-    if !(1..=8_000).contains(&look.farthest) {
-        return Err(21);
+    farthest_verdict(look.farthest)
+}
+
+/// Fills each station's place of a lent list with what is said of the station; refused 14 if the list is shorter than
+/// the heights.
+pub(super) fn fill<T>(heights: &[i32], list: &mut [T], said_of: impl Fn(&[i64], usize) -> T) -> Answer {
+    if list.len() < heights.len() {
+        return Err(14);
     }
-    Ok(())
+    let whole = whole_heights(heights);
+    for (i, place) in list[..heights.len()].iter_mut().enumerate() {
+        *place = said_of(&whole, i);
+    }
+    Ok(heights.len() as u32)
 }
 
 /// Sight from one station.
@@ -81,12 +100,5 @@ pub fn sight(heights: &[i32], station: u32, look: Look) -> Answer {
 pub fn sight_profile(heights: &[i32], look: Look, sights: &mut [u16]) -> Answer {
     list_verdict(heights.len())?;
     look_verdict(look)?;
-    if sights.len() < heights.len() {
-        return Err(14);
-    }
-    let whole = whole_heights(heights);
-    for (i, place) in sights[..heights.len()].iter_mut().enumerate() {
-        *place = available_sight(&whole, look, i) as u16;
-    }
-    Ok(heights.len() as u32)
+    fill(heights, sights, |heights, i| available_sight(heights, look, i) as u16)
 }
