@@ -1,5 +1,5 @@
 -- The accuracy rule for passing (docs/RULES.md, "Passing"): sight with eye and object at 10,800, and what a passing mark says of
--- the exact profile, exact in fractions of whole numbers, from the road's numbers alone.
+-- the exact profile, in fractions of whole numbers, from the road's numbers alone.
 use Prim.Native.Nat.{ℕ, _+_, _-_, _^_, _≤_, _<_}
 use mathlib.Core.List.{List}
 use mathlib.Core.Logic.{_⊎_}
