@@ -19,9 +19,9 @@ use Rattle.accuracy.specs.Accuracy.{Accurate}
 -- what the mark of station i says of the exact profile, for a passing distance R
 abbrev pub Says : Road → ℕ → ℕ → ℕ → Type 0
 Says r R i mark =
-    -- none: passing is judged, and with eye and object one h-unit higher R is seen
+    -- none: passing is judged, and with eye and object one h-unit higher sight is not below R
     ((mark ≡ 0) × (i + R ≤ r .length) × (R ≤ exactSight r i (eyeHeight + 1) (passingObjectHeight + 1) R))
-    -- bit 5: passing is judged, and with eye and object one h-unit lower R is not seen
+    -- bit 5: passing is judged, and with eye and object one h-unit lower sight is below R
     ⊎ ((mark ≡ 2 ^ 5) × (i + R ≤ r .length) × (exactSight r i (eyeHeight - 1) (passingObjectHeight - 1) R < R))
     -- bit 6: the road ends before R does
     ⊎ ((mark ≡ 2 ^ 6) × (r .length < i + R))
