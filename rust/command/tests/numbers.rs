@@ -176,7 +176,13 @@ fn compare(random: &mut Random, command: &str, mut options: Vec<[&str; 2]>, expe
     expected
 }
 
-/// The six values in and out of their ranges, in any order, with or without the zeros that may be left out.
+/// Tenths as a decimal, without a zero behind the point.
+fn of_tenths(number: u32) -> String {
+    let text = decimal(number, 10, 1);
+    text.strip_suffix(".0").map_or(text.clone(), str::to_string)
+}
+
+/// The six values in and out of their ranges, whichever comes first.
 #[test]
 fn random_passing_distances() {
     let mut random = Random::new(101);
@@ -188,8 +194,7 @@ fn random_passing_distances() {
             _ => random.within(range),
         });
         let [t1, a, v, m, t2, d3] = six;
-        let shorter = |text: String| text.strip_suffix(".0").map_or(text.clone(), str::to_string);
-        let [t1, v, m, t2] = [t1, v, m, t2].map(|tenths| shorter(decimal(tenths, 10, 1)));
+        let [t1, v, m, t2] = [t1, v, m, t2].map(of_tenths);
         let (a, d3) = (decimal(a, 100, 2), d3.to_string());
         let options = vec![["--t1", &t1], ["--a", &a], ["--v", &v], ["--m", &m], ["--t2", &t2], ["--d3", &d3]];
         tally.count(compare(&mut random, "passing-distance", options, passing_distance(six)));
@@ -210,15 +215,11 @@ fn lines_of_a_passing_distance() {
     let folder = folder("passing_distance_lines");
     expect(&folder, &manoeuvre("", ""), "320\n");
     expect(&folder, &manoeuvre("--m", "15.0"), "320\n");
-    let ends = |place: usize, unit: u32, digits: usize| {
-        let end = |number: u32| {
-            let text = decimal(number, unit, digits);
-            text.strip_suffix(".0").map_or(text.clone(), str::to_string)
-        };
-        format!("not {} to {}", end(*RANGES[place].start()), end(*RANGES[place].end()))
+    let ends = |place: usize, text: fn(u32) -> String| {
+        format!("not {} to {}", text(*RANGES[place].start()), text(*RANGES[place].end()))
     };
-    let [t1, v, m, t2] = [0, 2, 3, 4].map(|place| ends(place, 10, 1));
-    let (a, d3) = (ends(1, 100, 2), ends(5, 1, 1));
+    let [t1, v, m, t2] = [0, 2, 3, 4].map(|place| ends(place, of_tenths));
+    let (a, d3) = (ends(1, |hundredths| decimal(hundredths, 100, 2)), ends(5, |metres| metres.to_string()));
     let refused = &format!(
         "vcp passing-distance: refused 24: of the manoeuvre t1 is {t1} s, a {a} km/h/s, v {v} km/h, m {m} km/h, \
          t2 {t2} s or d3 {d3} m\n"

@@ -25,7 +25,7 @@ fn random_roads() {
     }
 }
 
-/// The same with rows for passing, for distances to the road's end and beyond.
+/// The same with rows for passing, for short distances, and for one that most of the roads do not have.
 #[test]
 fn random_roads_with_passing() {
     let folder = folder("plot_passing");
