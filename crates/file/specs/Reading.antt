@@ -29,7 +29,7 @@ headerVerdict s =
     (fault (not (eqb (length s) (fileLength (curveCount s)))) totalRefused
     Accepted))))
 
--- reading: 1 to 5, then 6 to 13 of the road
+-- reading: 1 to 5, then the refusals of the road
 unfoldable pub readVerdict : List ℕ → Verdict
 readVerdict s = firstFault (headerVerdict s) (roadVerdict (roadIn s))
 

@@ -168,7 +168,7 @@ fn header_verdict(file: &[u8]) -> Verdict
     Verdict::Accepted
 }
 
-// Reads a road file. Refused by 1 to 5 as its header is, then by 6 to 13 as its road is.
+// Reads a road file. Refused by 1 to 5 as its header is, then as its road is.
 pub fn read(file: &[u8]) -> ReadRoad
     ensures { λ r. ⌜ r ≡ readRoad (now (file .entry)) ⌝ }
 {

@@ -12,7 +12,7 @@ use Rattle.terms.proofs.Laws.{ByteFault, fault-byte, first-fault-byte}
 use Rattle.terms.specs.declared.Verdict.the-variants.{Accepted}
 use Rattle.road.specs.declared.Curve.{Curve}
 use Rattle.road.specs.declared.Road.{Road}
-use Rattle.road.specs.Road.{begin, end, startOf, lengthOutside, placeOutside, curvesOf, curveVerdict, curvesVerdict, numbersVerdict, roadVerdict}
+use Rattle.road.specs.Road.{begin, end, startOf, lengthOutside, placeOutside, sharpBreak, curvesOf, curveVerdict, curvesVerdict, numbersVerdict, roadVerdict}
 use Rattle.road.proofs.Places.{next-curve, place-in-use}
 
 -- ---- the curves from a place on
@@ -34,7 +34,8 @@ curve-verdict-byte n before c =
     fault-byte (gradeOutside (c .«grade_out»)) _ _ (omega arith)
     (fault-byte (lengthOutside c) _ _ (omega arith)
     (fault-byte (placeOutside n c) _ _ (omega arith)
-    (fault-byte (ltb (begin c) (end before)) _ _ (omega arith) tt)))
+    (fault-byte (ltb (begin c) (end before)) _ _ (omega arith)
+    (fault-byte (sharpBreak before c) _ _ (omega arith) tt))))
 
 curves-verdict-byte : (n : ℕ) (before : Curve) (cs : List Curve) → ByteFault (curvesVerdict n before cs)
 unfolding curvesVerdict

@@ -1,14 +1,14 @@
 -- docs/RULES.md, "The road and its heights" and "Road file": when a road handed over as a value is accepted. The refusals are
--- 4, then 6 to 13; the lowest curve with a fault decides.
+-- 4, then 6 to 13 and 25; the lowest curve with a fault decides.
 use Prim.Native.Nat.{ℕ, _+_, _-_, _/_, _%_}
-use mathlib.Core.Bool.{Bool, not, _||_}
+use mathlib.Core.Bool.{Bool, not, _||_, _&&_}
 use mathlib.Core.List.{List, [], _∷_}
 use lib.Dec.{ltb, eqb}
-use lib.IntN.{pos}
+use lib.IntN.{pos, negℤ, _-ℤ_}
 use lib.ListN.{take}
 use Rattle.terms.specs.Answers.{outside, outsideℤ, gradeOutside, fault, firstFault}
-use Rattle.terms.specs.Limits.{leastSpeed, greatestSpeed, firstDecision, lastPurpose, greatestRoad, lowestStart, highestStart, greatestCurveCount, greatestCurve}
-use Rattle.terms.specs.Refusals.{curveCountRefused, speedRefused, purposeRefused, roadLengthRefused, startRefused, gradeRefused, curveLengthRefused, curvePlaceRefused, curveOrderRefused}
+use Rattle.terms.specs.Limits.{leastSpeed, greatestSpeed, firstDecision, lastPurpose, greatestRoad, lowestStart, highestStart, greatestCurveCount, greatestCurve, greatestBreak}
+use Rattle.terms.specs.Refusals.{curveCountRefused, speedRefused, purposeRefused, roadLengthRefused, startRefused, gradeRefused, curveLengthRefused, curvePlaceRefused, curveOrderRefused, sharpBreakRefused}
 use Rattle.terms.specs.declared.Verdict.{Verdict}
 use Rattle.terms.specs.declared.Verdict.the-variants.{Accepted}
 use Rattle.road.specs.declared.Curve.{Curve}
@@ -44,13 +44,19 @@ placeOutside n c = ltb (c .pvi) (half c) || ltb n (end c)
 abbrev pub startOf : Road → Curve
 startOf r = record { pvi = 0; length = 0; «grade_out» = r .«first_grade» }
 
--- one curve of a road of length n, after the one listed just before it: 10, 11, 12, 13
+-- a plain break, which is a curve of length 0, whose grades differ by more than 50; its grade in is the grade out of the curve listed
+-- just before it
+abbrev pub sharpBreak : Curve → Curve → Bool
+sharpBreak before c = eqb (c .length) 0 && outsideℤ (negℤ (pos greatestBreak)) (pos greatestBreak) (c .«grade_out» -ℤ before .«grade_out»)
+
+-- one curve of a road of length n, after the one listed just before it: 10, 11, 12, 13, 25
 unfoldable pub curveVerdict : ℕ → Curve → Curve → Verdict
 curveVerdict n before c =
     fault (gradeOutside (c .«grade_out»)) gradeRefused
     (fault (lengthOutside c) curveLengthRefused
     (fault (placeOutside n c) curvePlaceRefused
-    (fault (ltb (begin c) (end before)) curveOrderRefused Accepted)))
+    (fault (ltb (begin c) (end before)) curveOrderRefused
+    (fault (sharpBreak before c) sharpBreakRefused Accepted))))
 
 -- the curves in turn, each after the one listed just before it; the lowest with a fault decides
 unfoldable pub curvesVerdict : ℕ → Curve → List Curve → Verdict

@@ -2,7 +2,7 @@
 ghost use Prim.Native.Nat.{_≤_};
 ghost use mathlib.Core.Path.{_≡_};
 ghost use Rattle.terms.specs.Limits.{greatestCurveCount};
-ghost use Rattle.road.specs.Road.{half, begin, end, startOf, curvesOf, curveVerdict, curvesVerdict, numbersVerdict, roadVerdict};
+ghost use Rattle.road.specs.Road.{half, begin, end, startOf, curvesOf, sharpBreak, curveVerdict, curvesVerdict, numbersVerdict, roadVerdict};
 use terms::Verdict;
 
 // A curve: the station where its two straights meet (PVI), its length in metres, and its grade out.
@@ -79,7 +79,15 @@ pub fn end_of(c: Curve) -> u64
     c.pvi as u64 + half as u64
 }
 
-// Refusals 10 to 13 of one curve of a road of length `n`, after the curve listed just before it.
+// Whether a curve is a plain break whose grades differ by too much. The difference of any two grades fits 32 bits.
+fn sharp_break(before: Curve, c: Curve) -> bool
+    ensures { λ r. ⌜ r ≡ sharpBreak before c ⌝ }
+{
+    let turn = c.grade_out as i32 - before.grade_out as i32;
+    (c.length == 0) & ((turn < -terms::GREATEST_BREAK) | (terms::GREATEST_BREAK < turn))
+}
+
+// Refusals 10 to 13 and 25 of one curve of a road of length `n`, after the curve listed just before it.
 fn curve_verdict(before: Curve, c: Curve, n: u32) -> Verdict
     ensures { λ r. ⌜ r ≡ curveVerdict n before c ⌝ }
 {
@@ -96,6 +104,9 @@ fn curve_verdict(before: Curve, c: Curve, n: u32) -> Verdict
     }
     if begin_of(c) < end_of(before) {
         return Verdict::Fault(terms::CURVE_ORDER_REFUSED);
+    }
+    if sharp_break(before, c) {
+        return Verdict::Fault(terms::SHARP_BREAK_REFUSED);
     }
     Verdict::Accepted
 }
@@ -125,7 +136,7 @@ fn curves_verdict(road: Road) -> Verdict
     Verdict::Accepted
 }
 
-// Whether a road is accepted: the first of the refusals 4, then 6 to 13, that applies to it.
+// Whether a road is accepted: the first of the refusals 4, then 6 to 13 and 25, that applies to it.
 pub fn verdict(road: Road) -> Verdict
     ensures { λ r. ⌜ r ≡ roadVerdict road ⌝ }
 {

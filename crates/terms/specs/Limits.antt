@@ -39,6 +39,10 @@ greatestCurveCount = 32
 abbrev pub greatestCurve : ℕ
 greatestCurve = 2000
 
+-- by how much the grades of a plain break may differ, in hundredths of a percent
+abbrev pub greatestBreak : ℕ
+greatestBreak = 50
+
 -- a crest or a sag: its drop or rise in grade in hundredths of a percent, its sight distance and the length that is answered in metres
 abbrev pub greatestGradeChange : ℕ
 greatestGradeChange = 3000

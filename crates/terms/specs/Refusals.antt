@@ -96,3 +96,7 @@ zoneRoomRefused = 23
 -- one of the six values of a passing manoeuvre out of its range
 abbrev pub manoeuvreRefused : ℕ
 manoeuvreRefused = 24
+
+-- a plain break in grade whose grades differ by more than 50
+abbrev pub sharpBreakRefused : ℕ
+sharpBreakRefused = 25

@@ -65,6 +65,8 @@ pub const ZONE_ROOM_REFUSED: u8 = 23;
 
 pub const MANOEUVRE_REFUSED: u8 = 24;
 
+pub const SHARP_BREAK_REFUSED: u8 = 25;
+
 // ---- limits
 // Speeds in km/h.
 pub const LEAST_SPEED: u32 = 20;
@@ -91,6 +93,9 @@ pub const GREATEST_GRADE: i32 = 1500;
 pub const GREATEST_CURVE_COUNT: u8 = 32;
 
 pub const GREATEST_CURVE: u16 = 2000;
+
+// By how much the grades of a plain break may differ, in hundredths of a percent.
+pub const GREATEST_BREAK: i32 = 50;
 
 // A crest or a sag: its drop or rise in grade, in hundredths of a percent; its sight distance and the length that is answered, in
 // metres.

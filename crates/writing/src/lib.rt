@@ -96,8 +96,8 @@ fn put_file(road: Road, buffer: &mut [u8]) -> usize
     next
 }
 
-// Writes a road's file at the front of a buffer, and answers how many bytes that is. Refused by 4 and 6 to 13 as the road
-// is, then by 14; the buffer is then as it was.
+// Writes a road's file at the front of a buffer, and answers how many bytes that is. Refused as the road is, then by 14; the
+// buffer is then as it was.
 pub fn write(road: Road, buffer: &mut [u8]) -> Answer
     ensures answer { λ r. ⌜ r ≡ writeAnswer road (now (buffer .entry)) ⌝ }
     ensures list { λ _. ⌜ now (buffer .exit) ≡ writeList road (now (buffer .entry)) ⌝ }

@@ -7,9 +7,9 @@ use lib.Dec.{ltb}
 use mir.Syntax.{w16, w32}
 use Rattle.whole.proofs.Machine.{Widens, widens}
 use Rattle.terms.specs.Answers.{gradeOutside, fault}
-use Rattle.terms.specs.Refusals.{curvePlaceRefused, curveOrderRefused}
+use Rattle.terms.specs.Refusals.{curvePlaceRefused, curveOrderRefused, sharpBreakRefused}
 use Rattle.terms.specs.declared.Verdict.the-variants.{Accepted}
-use Rattle.road.specs.Road.{begin, end, curveVerdict}
+use Rattle.road.specs.Road.{begin, end, sharpBreak, curveVerdict}
 use Rattle.road.proofs.curve_verdict.Statement.{statement}
 use Rattle.road.proofs.curve_verdict.Tie as tie
 
@@ -49,7 +49,8 @@ module _ (c : tie.After-end-of) where
 
   past-length : let a = begun .args in
       curveVerdict (a .n) (a .before) (a .c) ≡ fault (ltb (a .c .pvi) (c .before .before .half-of .result) || ltb (a .n) (c .end-of .result)) curvePlaceRefused
-      (fault (ltb (begin (a .c)) (end (a .before))) curveOrderRefused Accepted)
+      (fault (ltb (begin (a .c)) (end (a .before))) curveOrderRefused
+      (fault (sharpBreak (a .before) (a .c)) sharpBreakRefused Accepted))
   unfolding curveVerdict
   past-length =
       let size = c .before .before .before in let grade = size .before in
@@ -70,11 +71,23 @@ returns-4 c =
     let early = rw (c .before .before .begin-of .ensures, c .before .end-of2 .ensures) at (c .if4 .taken) in
     sym (past-length (place .before) ∙ simp (place .if3 .left, lt-ltb _ _ early))
 
+sharp-break-requires : tie.Need-sharp-break-requires
+sharp-break-requires c κs = search needs
+
+-- the verdict past the tests of the place and the order, with what the call told of the break
+past-order : (c : tie.After-sharp-break) → let a = begun (c .before .before .before .before .before) .args in
+    curveVerdict (a .n) (a .before) (a .c) ≡ fault (c .sharp-break .result) sharpBreakRefused Accepted
+past-order c =
+    let order = c .before in
+    let place = order .before .before .before in
+    let ordered = rw (order .before .before .begin-of .ensures, order .before .end-of2 .ensures) at (order .if4 .left) in
+    past-length (place .before) ∙ simp (place .if3 .left, le-ltb _ _ ordered, c .sharp-break .ensures)
+
 returns-5 : tie.Need-returns-5
-returns-5 c =
-    let place = c .before .before .before in
-    let ordered = rw (c .before .before .begin-of .ensures, c .before .end-of2 .ensures) at (c .if4 .left) in
-    sym (past-length (place .before) ∙ simp (place .if3 .left, le-ltb _ _ ordered))
+returns-5 c = sym (past-order (c .before) ∙ simp (c .if5 .taken))
+
+returns-6 : tie.Need-returns-6
+returns-6 c = sym (past-order (c .before) ∙ simp (c .if5 .left))
 
 pub curve-verdict-spec : {M : Type 1} → statement M
 curve-verdict-spec =
@@ -90,4 +103,6 @@ curve-verdict-spec =
     begin-of-requires
     end-of-requires-2
     returns-4
-    returns-5)
+    sharp-break-requires
+    returns-5
+    returns-6)
