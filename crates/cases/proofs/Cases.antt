@@ -12,10 +12,10 @@ use Rattle.verdicts.specs.Verdicts.{sightVerdict, lookVerdict, passingVerdict}
 use Rattle.sight.specs.Sight.{availableSight, sightFrom, reach, seen, everyBetween, every, clears}
 use Rattle.sight.specs.Operations.{sightAnswer}
 use Rattle.passing.specs.Passing.{passingMark, passingAnswer, passingList}
-use Rattle.cases.specs.Cases.{StarredCases, curve, crestRoad, heightAt, leastAdequate, manoeuvre, passingOver}
+use Rattle.cases.specs.Cases.{StarredCases, curve, roadOf, crestRoad, breaksRoad, heightAt, leastAdequate, manoeuvre, passingOver}
 
 pub starred-cases : StarredCases
-unfolding requiredDistance metresFor levelMetres gradedMetres levelParts gradedParts upToFive passingDistance passingParts initialParts leftLaneParts oncomingParts manoeuvreOutside manoeuvre crestLength sagLength lengthVerdict leastAdequate leastEven longEnough reachesMinimum adequate withinRoot roadVerdict numbersVerdict curvesVerdict curveVerdict heightAt ownHeights heightsList heightsAnswer filled storedHeight exactHeight exactFrom floorDiv crestRoad curve sightVerdict lookVerdict sightAnswer availableSight sightFrom reach seen everyBetween every clears passingOver passingList passingAnswer passingVerdict passingMark
+unfolding requiredDistance metresFor levelMetres gradedMetres levelParts gradedParts upToFive passingDistance passingParts initialParts leftLaneParts oncomingParts manoeuvreOutside manoeuvre crestLength sagLength lengthVerdict leastAdequate leastEven longEnough reachesMinimum adequate withinRoot roadVerdict numbersVerdict curvesVerdict curveVerdict heightAt ownHeights heightsList heightsAnswer filled storedHeight exactHeight exactFrom floorDiv breaksRoad crestRoad roadOf curve sightVerdict lookVerdict sightAnswer availableSight sightFrom reach seen everyBetween every clears passingOver passingList passingAnswer passingVerdict passingMark
 starred-cases = record {
   distances = (refl, refl, refl, refl, refl, refl);
   passing = (refl, refl, refl, refl);
@@ -23,6 +23,7 @@ starred-cases = record {
   adequate-crests = (refl, refl, refl, refl);
   sags = (refl, refl, refl, refl, refl);
   heights = (refl, refl, refl, refl, refl, refl);
+  breaks = (refl, refl, refl, refl, refl);
   sights = (refl, refl, refl);
   passing-marks = (refl, refl, refl);
 }

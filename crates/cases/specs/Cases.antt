@@ -1,21 +1,22 @@
--- The starred cases, which are worked examples of the rules, by the headings of docs/RULES.md; the acceptance of both roads and the
--- height 0 at 100 stand beside them.
+-- The starred cases, which are worked examples of the rules, by the headings of docs/RULES.md; the acceptance of the two
+-- roads whose heights are given and the height 0 at 100 stand beside them.
 use mathlib.Core.Path.{_≡_}
-use mathlib.Core.List.{List, [], _∷_}
-use Prim.Native.Nat.{ℕ, _*_, _/_}
+use mathlib.Core.List.{List, [], _∷_, _++_}
+use Prim.Native.Nat.{ℕ, _*_, _-_, _/_}
 use lib.IntN.{ℤ, pos, negℤ}
-use lib.ListN.{getD, replicate}
-use Rattle.terms.specs.Limits.{stoppingPurpose, eyeHeight, objectHeight}
+use lib.ListN.{length, getD, replicate}
+use Rattle.terms.specs.Limits.{stoppingPurpose, greatestCurveCount, eyeHeight, objectHeight}
+use Rattle.terms.specs.Refusals.{sharpBreakRefused}
 use Rattle.terms.specs.declared.Answer.{Answer}
 use Rattle.terms.specs.declared.Answer.the-variants.{Number}
-use Rattle.terms.specs.declared.Verdict.the-variants.{Accepted}
+use Rattle.terms.specs.declared.Verdict.the-variants.{Accepted, Fault}
 use Rattle.distance.specs.declared.Manoeuvre.{Manoeuvre}
 use Rattle.distance.specs.Distance.{purposeRow, metreParts, levelParts, requiredDistance}
 use Rattle.distance.specs.PassingDistance.{passingMetre, passingParts, passingDistance}
 use Rattle.curve_lengths.specs.Lengths.{crestAdequate, sagAdequate, leastLength, crestLength, sagLength}
 use Rattle.road.specs.declared.Curve.{Curve}
 use Rattle.road.specs.declared.Road.{Road}
-use Rattle.road.specs.Road.{roadVerdict}
+use Rattle.road.specs.Road.{noCurve, roadVerdict}
 use Rattle.heights.specs.Heights.{ownHeights}
 use Rattle.sight.specs.Operations.{sightAnswer}
 use Rattle.passing.specs.Passing.{passingList}
@@ -24,21 +25,29 @@ use Rattle.passing.specs.Passing.{passingList}
 unfoldable pub curve : ℕ → ℕ → ℤ → Curve
 curve p l g = record { pvi = p; length = l; «grade_out» = g }
 
--- first grade 300, start 0, N 100, one curve with PVI 50, grade −300 and this length
-unfoldable pub crestRoad : ℕ → Road
-crestRoad l = record {
+-- start 0, N 100, with this first grade and these curves
+unfoldable pub roadOf : ℤ → List Curve → Road
+roadOf g cs = record {
   speed = 80;
   purpose = 1;
   length = 100;
   «start_height» = pos 0;
-  «first_grade» = pos 300;
-  count = 1;
-  curves = curve 50 l (negℤ (pos 300)) ∷ replicate 31 (curve 0 0 (pos 0));
+  «first_grade» = g;
+  count = length cs;
+  curves = cs ++ replicate (greatestCurveCount - length cs) noCurve;
 }
+
+-- first grade 300, one curve with PVI 50, grade −300 and this length
+unfoldable pub crestRoad : ℕ → Road
+crestRoad l = roadOf (pos 300) (curve 50 l (negℤ (pos 300)) ∷ [])
 
 -- what Heights leaves at station x of that road; −1 behind its last station
 unfoldable pub heightAt : ℕ → ℕ → ℤ
 heightAt l x = getD (ownHeights (crestRoad l)) x (negℤ (pos 1))
+
+-- first grade 300, and two breaks at station 50 with these grades out
+unfoldable pub breaksRoad : ℕ → ℕ → Road
+breaksRoad g h = roadOf (pos 300) (curve 50 0 (pos g) ∷ curve 50 0 (pos h) ∷ [])
 
 -- the least even adequate length of a crest with this drop and sight distance, whatever the speed is: e = 10,800 and o = 6,000
 unfoldable pub leastAdequate : ℕ → ℕ → Answer
@@ -97,6 +106,13 @@ pub record StarredCases : Type 0 where
       × (heightAt 20 100 ≡ pos 0)
       × (roadVerdict (crestRoad 18) ≡ Accepted)
       × (heightAt 18 42 ≡ pos 12583)
+  -- The road and its heights: two breaks by 50; the first by 51, down and back or up; the second by 51; and one by 600 in place of the crest
+  pub breaks :
+      (roadVerdict (breaksRoad 350 400) ≡ Accepted)
+      × (roadVerdict (breaksRoad 249 300) ≡ Fault sharpBreakRefused)
+      × (roadVerdict (breaksRoad 351 351) ≡ Fault sharpBreakRefused)
+      × (roadVerdict (breaksRoad 250 301) ≡ Fault sharpBreakRefused)
+      × (roadVerdict (crestRoad 0) ≡ Fault sharpBreakRefused)
   -- What can be seen: from station 0 with farthest 8
   pub sights :
       (sightAnswer (pos 0 ∷ pos 20 ∷ pos 0 ∷ pos 100 ∷ []) 0 10 5 8 ≡ Number 1)
