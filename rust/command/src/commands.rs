@@ -174,7 +174,8 @@ Each line of the text has one item; what follows a # is a comment.
   first grade 4.00 %
   curve 480 m, 60 m, -2.00 %
 The first five stand once each, in any order. Curves stand in the road's order,
-each with its PVI, its length and its grade out; there are at most 32. A space
+each with its PVI, its length and its grade out; there are at most 32. One of
+length 0 is a break in grade: by more than 0.50 % it is refused 25. A space
 parts a number from its unit. The start height may have four decimals and a
 grade two; the other numbers are whole. Purposes 1 to 5 are the decisions A to
 E. The text has at most 1 MiB.

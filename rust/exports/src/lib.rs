@@ -204,7 +204,7 @@ pub fn zones(marks: &[u8], bit: u32, list: &mut [u16]) -> Result<u32, Refusal> {
 /// Reads a road file and writes its road again: the same bytes.
 ///
 /// # Errors
-/// Refused 1 to 13 as reading the file refuses it, then 14 if the buffer is too short.
+/// Refused 1 to 13 and 25 as reading the file refuses it, then 14 if the buffer is too short.
 pub fn rewrite(file: &[u8], out: &mut [u8]) -> Result<u32, Refusal> {
     // SAFETY: as for `sight_profile`.
     refusal::answer(unsafe { vcp_rewrite(file.as_ptr(), file.len(), out.as_mut_ptr(), out.len()) })
@@ -213,7 +213,7 @@ pub fn rewrite(file: &[u8], out: &mut [u8]) -> Result<u32, Refusal> {
 /// Reads a road file and fills the heights of its road, one a station. A list of [`ROAD_STATIONS`] holds any road's.
 ///
 /// # Errors
-/// Refused 1 to 13 as reading the file refuses it, then 14 if the list has fewer places than the road has stations.
+/// Refused 1 to 13 and 25 as reading the file refuses it, then 14 if the list has fewer places than the road has stations.
 pub fn file_heights(file: &[u8], list: &mut [i32]) -> Result<u32, Refusal> {
     // SAFETY: as for `sight_profile`.
     refusal::answer(unsafe { vcp_file_heights(file.as_ptr(), file.len(), list.as_mut_ptr(), list.len()) })
@@ -223,7 +223,7 @@ pub fn file_heights(file: &[u8], list: &mut [i32]) -> Result<u32, Refusal> {
 /// included, or 0 if none is negative.
 ///
 /// # Errors
-/// Refused 1 to 13 as reading the file refuses it.
+/// Refused 1 to 13 and 25 as reading the file refuses it.
 pub fn file_grade(file: &[u8]) -> Result<i32, Refusal> {
     // SAFETY: as for `sight`.
     let downgrade = refusal::answer(unsafe { vcp_file_downgrade(file.as_ptr(), file.len()) })?;

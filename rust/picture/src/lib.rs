@@ -76,8 +76,9 @@ impl Profile<'_> {
 /// ```
 /// use picture::{svg, Curve, Profile};
 ///
-/// // From height 0 it rises by 15 %, and from station 100 on it falls by 15 %.
-/// let heights: Vec<i32> = (0..=300_i32).map(|station| 1_500 * (100 - (station - 100).abs())).collect();
+/// // From height 0 it rises by 15 %, and from station 100 on it falls by 15 %; the crest between is 2 m long.
+/// let mut heights: Vec<i32> = (0..=300_i32).map(|station| 1_500 * (100 - (station - 100).abs())).collect();
+/// heights[100] = 149_250;
 /// let picture = svg(&Profile {
 ///     speed: 20,
 ///     purpose: 1,
@@ -85,9 +86,9 @@ impl Profile<'_> {
 ///     stopping: 25,
 ///     decision: 25,
 ///     first_grade: 1_500,
-///     curves: &[Curve { pvi: 100, length: 0, grade_out: -1_500 }],
+///     curves: &[Curve { pvi: 100, length: 2, grade_out: -1_500 }],
 ///     heights: &heights,
-///     zones: &[vec![[78, 96]], vec![[78, 96]], vec![], vec![[276, 300]], vec![[276, 300]]],
+///     zones: &[vec![[78, 95]], vec![[78, 95]], vec![], vec![[276, 300]], vec![[276, 300]]],
 ///     passing: None,
 /// });
 /// assert!(picture.starts_with("<svg "));

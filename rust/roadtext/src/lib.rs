@@ -9,7 +9,7 @@
 //! first grade 4.00 %
 //! # PVI, length, grade out
 //! curve 480 m, 60 m, -2.00 %
-//! curve 900 m, 0 m, -2.75 %
+//! curve 900 m, 0 m, -2.50 %
 //! ```
 //!
 //! - Each line holds one item; blank lines, all that follows a `#` and a byte-order mark in front are passed over.
@@ -59,11 +59,11 @@ impl fmt::Display for Fault {
 /// All lines that cannot be read, in order; or, where all can be, the one line by which the proved reader refuses the road.
 ///
 /// ```
-/// let text = "speed 20 km/h\npurpose 1\nlength 300 m\nstart height 0 m\nfirst grade 15 %\ncurve 100 m, 0 m, -15 %\n";
+/// let text = "speed 20 km/h\npurpose 1\nlength 300 m\nstart height 0 m\nfirst grade 15 %\ncurve 100 m, 2 m, -15 %\n";
 /// let file = roadtext::road_file(text).unwrap();
-/// assert_eq!(file, b"VCP\x01\0\x14\x01\x2C\x01\0\0\0\0\xDC\x05\x01\x64\0\0\0\x24\xFA");
+/// assert_eq!(file, b"VCP\x01\0\x14\x01\x2C\x01\0\0\0\0\xDC\x05\x01\x64\0\x02\0\x24\xFA");
 ///
-/// let faults = roadtext::road_file(&text.replace("100 m, 0 m", "100 m, 3 m")).unwrap_err();
+/// let faults = roadtext::road_file(&text.replace("100 m, 2 m", "100 m, 3 m")).unwrap_err();
 /// assert_eq!(faults[0].to_string(), "6: refused 11: a curve's length is odd or over 2,000 m");
 /// ```
 pub fn road_file(text: &str) -> Result<Vec<u8>, Vec<Fault>> {

@@ -118,21 +118,21 @@ pub fn crest_length(speed: u32, drop: u32, sight: u32, eye: u32, object: u32) ->
 /// | 4 | d | [`DECISION_NOT_JUDGED`] |
 ///
 /// # Errors
-/// Refused 1 to 13 as reading the file refuses it, then 14 if the marks have fewer places than the road has stations. The
+/// Refused 1 to 13 and 25 as reading the file refuses it, then 14 if the marks have fewer places than the road has stations. The
 /// marks are then as they were.
 ///
 /// ```
-/// // 20 km/h, decision A, 300 m; from height 0 it rises by 15 %, and from station 100 on it falls by 15 %.
+/// // 20 km/h, decision A, 300 m; from height 0 it rises by 15 %, and behind a crest from station 99 to 101 it falls by 15 %.
 /// let file = [
 ///     0x56, 0x43, 0x50, 0x01, 0x00, 0x14, 0x01, 0x2C, 0x01, 0x00, 0x00, 0x00, 0x00, 0xDC, 0x05, 0x01,
-///     0x64, 0x00, 0x00, 0x00, 0x24, 0xFA,
+///     0x64, 0x00, 0x02, 0x00, 0x24, 0xFA,
 /// ];
 /// let mut marks = [0; 301];
 /// assert_eq!(vcp::mark_road_file(&file, &mut marks), Ok(301));
 ///
 /// let stations = |bit: u8| (0..301).filter(|&station| marks[station] & bit != 0).collect::<Vec<_>>();
-/// assert_eq!(stations(vcp::STOPPING_LACKING), (78..=96).collect::<Vec<_>>());
-/// assert_eq!(stations(vcp::DECISION_LACKING), (78..=96).collect::<Vec<_>>());
+/// assert_eq!(stations(vcp::STOPPING_LACKING), (78..=95).collect::<Vec<_>>());
+/// assert_eq!(stations(vcp::DECISION_LACKING), (78..=95).collect::<Vec<_>>());
 /// assert!(stations(vcp::REDUCED_DECISION).is_empty());
 /// assert_eq!(stations(vcp::STOPPING_NOT_JUDGED), (276..=300).collect::<Vec<_>>());
 /// assert_eq!(stations(vcp::DECISION_NOT_JUDGED), (276..=300).collect::<Vec<_>>());
