@@ -4,11 +4,40 @@ use crate::random::Random;
 use crate::reference::file::bytes;
 use crate::reference::road::{Curve, Road};
 
-/// The road file of the rules' example for the lister.
-pub const EXAMPLE: [u8; 22] = [
+/// The road file of the rules' example for the lister: a crest, a sag, a crest and a break.
+pub const EXAMPLE: [u8; 40] = [
+    0x56, 0x43, 0x50, 0x01, 0x00, 0x28, 0x01, 0x2C, 0x01, 0x00, 0x00, 0x00, 0x00, 0x58, 0x02, 0x04, 0x64, 0x00, 0x0A,
+    0x00, 0xA8, 0xFD, 0x82, 0x00, 0x0A, 0x00, 0x58, 0x02, 0xA0, 0x00, 0x0A, 0x00, 0xA8, 0xFD, 0xC8, 0x00, 0x00, 0x00,
+    0xDA, 0xFD,
+];
+
+/// Its listing.
+pub const EXAMPLE_LISTING: &str = "\
+VCP 1 40 50 60
+S 58 87
+S 123 148
+D 48 87
+D 115 149
+R 48 57
+R 115 122
+R 149 149
+s 251 300
+d 241 300
+";
+
+/// The road file of document 01's example, a break of 30 %, which is refused 25.
+pub const SHARP_BREAK: [u8; 22] = [
     0x56, 0x43, 0x50, 0x01, 0x00, 0x14, 0x01, 0x2C, 0x01, 0x00, 0x00, 0x00, 0x00, 0xDC, 0x05, 0x01, 0x64, 0x00, 0x00,
     0x00, 0x24, 0xFA,
 ];
+
+/// Why, in the words of the command.
+pub const SHARP_BREAK_REASON: &str =
+    "the grades of a curve of length 0 differ by more than 50 hundredths of a percent (0.5 %)";
+
+/// The refusals of reading a road file, in the order in which they are tested: those of the file, then those of its road.
+pub const REFUSALS: [u32; 14] = [1, 2, 3, 4, 5, 6, 7, 8, 9, 10, 11, 12, 13, 25];
+pub const OF_ROAD: &[u32] = REFUSALS.split_at(5).1;
 
 /// How curves are laid one behind the other: at most so many, with at most so many metres of straight before each and
 /// of curve on either side of its PVI, on a road of at most `room` metres.
@@ -49,22 +78,35 @@ fn any_start_height(random: &mut Random) -> i32 {
     }
 }
 
+/// The grade out of a curve that is to lead to this grade: a plain break turns towards it by no more than 50.
+fn grade_out(length: u16, grade_in: i16, wanted: i16) -> i16 {
+    match length {
+        0 => wanted.clamp(grade_in - 50, grade_in + 50),
+        _ => wanted,
+    }
+}
+
 /// Lays curves while they fit. Half of them touch the one before, or begin at station 0; half of the roads end where
-/// their last curve does.
+/// their last curve does. Where curves have a length at all, one in six is a plain break.
 fn lay(random: &mut Random, laying: Laying) -> Road {
     let first_grade = any_grade(random);
     let mut curves = Vec::new();
-    let mut end = 0;
+    let (mut end, mut grade) = (0, first_grade);
     let mut uphill = first_grade > 0;
     while curves.len() < laying.curves as usize {
         let straight = if random.once_in(2) { 0 } else { random.within(0..=laying.straight) };
-        let half = random.within(0..=laying.half);
+        let half = if laying.half == 0 || random.once_in(6) { 0 } else { random.within(1..=laying.half) };
         let pvi = end + straight + half;
         if pvi + half > laying.room {
             break;
         }
-        uphill = !uphill;
-        curves.push(Curve { pvi, length: 2 * half as u16, grade_out: turning_grade(random, uphill) });
+        // Several breaks in a row turn the same way, so that they too make crests and sags.
+        if half > 0 || random.once_in(8) {
+            uphill = !uphill;
+        }
+        let length = 2 * half as u16;
+        grade = grade_out(length, grade, turning_grade(random, uphill));
+        curves.push(Curve { pvi, length, grade_out: grade });
         end = pvi + half;
     }
     let tail = if random.once_in(2) { 0 } else { random.within(0..=laying.straight.min(laying.room - end)) };
@@ -134,11 +176,16 @@ pub fn gentler(road: Road, times: i16) -> Road {
 }
 
 /// The same road with each grade as far from the steepest as it was from the level, so that most are steep: its
-/// crests are high enough to hide a car.
-pub fn steeper(road: Road) -> Road {
+/// crests are high enough to hide a car. A plain break turns by 50 at most all the same.
+pub fn steeper(mut road: Road) -> Road {
     let steep = |grade: i16| if grade < 0 { -1_500 - grade } else { 1_500 - grade };
-    let curves = road.curves.iter().map(|&curve| Curve { grade_out: steep(curve.grade_out), ..curve }).collect();
-    Road { first_grade: steep(road.first_grade), curves, ..road }
+    road.first_grade = steep(road.first_grade);
+    let mut grade = road.first_grade;
+    for curve in &mut road.curves {
+        grade = grade_out(curve.length, grade, steep(curve.grade_out));
+        curve.grade_out = grade;
+    }
+    road
 }
 
 /// A road of any of the kinds above, most of them short.
@@ -154,7 +201,20 @@ pub fn any_road(random: &mut Random) -> Road {
     }
 }
 
-/// Gives an accepted road one fault, which this number refuses (6 to 13). False if the road has no place for it.
+/// A grade out that differs from a grade in by more than a plain break may, as often by one unit as by more.
+fn sharp_turn(random: &mut Random, grade_in: i16) -> i16 {
+    // Up where there is room upwards alone, and half the times where there is room both ways.
+    let up = grade_in < -1_449 || grade_in <= 1_449 && random.once_in(2);
+    let room = if up { 1_500 - grade_in } else { 1_500 + grade_in };
+    let turn = if random.once_in(2) { 51 } else { random.within(51..=room as u32) as i16 };
+    if up {
+        grade_in + turn
+    } else {
+        grade_in - turn
+    }
+}
+
+/// Gives an accepted road one fault, which this number of [`OF_ROAD`] refuses. False if the road has no place for it.
 pub fn spoil_road(random: &mut Random, road: &mut Road, refusal: u32) -> bool {
     let any_curve = |random: &mut Random, road: &Road| match road.curves.len() as u32 {
         0 => None,
@@ -167,7 +227,7 @@ pub fn spoil_road(random: &mut Random, road: &mut Road, refusal: u32) -> bool {
         8 => road.length = random.one_of(&[0, 8_001, 8_002, 40_000, 65_535]),
         9 => road.start_height = random.one_of(&[-10_000_001, 90_000_001, i32::MIN, i32::MAX]),
         10 if random.once_in(2) => road.first_grade = beyond_grade(random),
-        10..=13 => {
+        10..=13 | 25 => {
             let Some(place) = any_curve(random, road) else { return false };
             let curve = road.curves[place];
             let half = u32::from(curve.length) / 2;
@@ -176,6 +236,11 @@ pub fn spoil_road(random: &mut Random, road: &mut Road, refusal: u32) -> bool {
                 11 => road.curves[place].length = random.one_of(&[1, curve.length | 1, 1_999, 2_001, 2_002, 65_535]),
                 12 if half > 0 && random.once_in(2) => road.curves[place].pvi = random.one_of(&[0, half - 1]),
                 12 => road.curves[place].pvi = random.one_of(&[road.length - half + 1, 8_001, 65_535]),
+                25 => {
+                    let grade_in = if place == 0 { road.first_grade } else { road.curves[place - 1].grade_out };
+                    let grade_out = sharp_turn(random, grade_in);
+                    road.curves[place] = Curve { length: 0, grade_out, ..curve };
+                }
                 _ => {
                     let end_before = if place == 0 { 0 } else { road.curves[place - 1].end() as u32 };
                     if end_before == 0 {
@@ -186,12 +251,12 @@ pub fn spoil_road(random: &mut Random, road: &mut Road, refusal: u32) -> bool {
                 }
             }
         }
-        _ => unreachable!("refusals of a road are 6 to 13"),
+        _ => unreachable!("{refusal} is no refusal of a road"),
     }
     true
 }
 
-/// Gives a road file one fault that is not its road's, which this number refuses (1 to 5).
+/// Gives a road file one fault that is not its road's, which this number refuses, one that is not in [`OF_ROAD`].
 pub fn spoil_file(random: &mut Random, file: &mut Vec<u8>, refusal: u32) {
     match refusal {
         1 => file.truncate(random.within(0..=15) as usize),
@@ -203,16 +268,16 @@ pub fn spoil_file(random: &mut Random, file: &mut Vec<u8>, refusal: u32) {
             1 => file[15] = (file[15] + random.within(1..=32) as u8) % 33,
             _ => file.extend((0..random.of_any_size(200)).map(|_| random.bits() as u8)),
         },
-        _ => unreachable!("refusals of a file that are not its road's are 1 to 5"),
+        _ => unreachable!("{refusal} is no refusal of the file itself"),
     }
 }
 
-/// The file of a road that was given these faults, each named by the number that refuses it (1 to 13).
+/// The file of a road that was given these faults, each named by the number that refuses it.
 pub fn faulty_file(random: &mut Random, refusals: &[u32]) -> Vec<u8> {
     // The higher numbers first, so that a curve is spoilt on a road whose other numbers are still good.
     let mut refusals = refusals.to_vec();
     refusals.sort_unstable_by(|one, other| other.cmp(one));
-    let (of_road, of_file): (Vec<u32>, Vec<u32>) = refusals.iter().partition(|&&refusal| refusal > 5);
+    let (of_road, of_file): (Vec<u32>, Vec<u32>) = refusals.iter().partition(|&refusal| OF_ROAD.contains(refusal));
     loop {
         let mut road = any_road(random);
         if of_road.iter().all(|&refusal| spoil_road(random, &mut road, refusal)) {

@@ -9,33 +9,29 @@ use sight_tests::lister;
 use sight_tests::pages::{block, files, has_public, links, prose, quoted, root, table, text};
 use sight_tests::reference::listing::listing;
 
-/// The road file that the README shows.
-fn three_crests() -> Vec<u8> {
-    fs::read(root().join("roads/three-crests.vcp")).expect("the road ships with the repository")
-}
-
-/// The listing of the README, whose lines have words behind two spaces, is what the lister prints for its road.
+/// The listings of the README, one of which has words behind two spaces, are what the lister prints for their roads.
 #[test]
-fn listing_of_the_readme() {
+fn listings_of_the_readme() {
     let readme = text("README.md");
-    let shown: Vec<&str> = block(&readme, "$ make list ROAD=roads/three-crests.vcp")
-        .into_iter()
-        .map(|line| line.split("  ").next().unwrap_or_default())
-        .collect();
-    let printed = lister::output(&three_crests());
-    assert_eq!(shown, printed.lines().collect::<Vec<_>>());
-    assert_eq!(printed, listing(&three_crests()), "second calculation");
+    for road in ["roads/three-crests.vcp", "roads/example.vcp"] {
+        let shown: Vec<&str> = block(&readme, &format!("$ make list ROAD={road}"))
+            .into_iter()
+            .map(|line| line.split("  ").next().unwrap_or_default())
+            .collect();
+        let file = fs::read(root().join(road)).expect("the road ships with the repository");
+        let printed = lister::output(&file);
+        assert_eq!(shown, printed.lines().collect::<Vec<_>>(), "{road}");
+        assert_eq!(printed, listing(&file), "second calculation, {road}");
+    }
 }
 
-/// The text of the README is how the shipped text begins.
+/// The text of the README is the shipped one.
 #[test]
 fn text_of_the_readme() {
     let readme = text("README.md");
-    let shipped = text("roads/three-crests.txt");
+    let shipped = text("roads/example.txt");
     let first = shipped.lines().next().expect("the text has lines");
-    let shown = block(&readme, first);
-    assert!(shown.len() > 5);
-    assert_eq!(shown, shipped.lines().skip(1).take(shown.len()).collect::<Vec<_>>());
+    assert_eq!(block(&readme, first), shipped.lines().skip(1).collect::<Vec<_>>());
 }
 
 /// Each link of the README and of the documents names something that is there. One to the network is not looked at.

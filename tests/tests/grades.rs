@@ -1,11 +1,12 @@
 //! docs/RULES.md, "Distances a driver needs": the grade that a road is marked with.
 
+use sight_tests::heights;
 use sight_tests::random::Random;
 use sight_tests::reference::distances::required_distance;
 use sight_tests::reference::file::{bytes, file_grade};
 use sight_tests::reference::marks::runs;
 use sight_tests::reference::road::{Curve, Road};
-use sight_tests::roads::{self, EXAMPLE};
+use sight_tests::roads::{self, EXAMPLE, REFUSALS};
 use sight_tests::tally::Tally;
 
 /// The program's answer for a file, which is that of the second calculation.
@@ -15,16 +16,16 @@ fn compare(file: &[u8]) -> Result<i32, u32> {
     answer
 }
 
-/// An accepted road with a first grade and breaks to these grades, the last of them at the road's end.
+/// An accepted road with a first grade and short curves to these grades, the last of them up to the road's end.
 fn road(first_grade: i16, grades: &[i16]) -> Road {
     let length = 10 * grades.len().max(1) as u32;
-    let curves = (1..).zip(grades).map(|(place, &grade_out)| Curve { pvi: 10 * place, length: 0, grade_out });
+    let curves = (1..).zip(grades).map(|(place, &grade_out)| Curve { pvi: 10 * place - 1, length: 2, grade_out });
     Road { speed: 90, purpose: 1, length, start_height: 0, first_grade, curves: curves.collect() }
 }
 
 #[test]
 fn grade_of_the_example() {
-    assert_eq!(compare(&EXAMPLE), Ok(-1_500));
+    assert_eq!(compare(&EXAMPLE), Ok(-600));
 }
 
 /// The least grade counts wherever it stands: as the first grade and as the grade out of each of the curves.
@@ -93,11 +94,11 @@ fn refused_files() {
     for _ in 0..20_000 {
         let file = match random.within(0..=3) {
             0 => {
-                let refusal = random.within(1..=13);
+                let refusal = random.one_of(&REFUSALS);
                 roads::faulty_file(&mut random, &[refusal])
             }
             1 => {
-                let refusals: Vec<u32> = (0..random.within(2..=5)).map(|_| random.within(1..=13)).collect();
+                let refusals: Vec<u32> = (0..random.within(2..=5)).map(|_| random.one_of(&REFUSALS)).collect();
                 roads::faulty_file(&mut random, &refusals)
             }
             2 => roads::careless_file(&mut random),
@@ -106,7 +107,7 @@ fn refused_files() {
         tally.count(compare(&file).map(i32::unsigned_abs));
     }
     assert!(tally.numbers() > 100, "{} accepted", tally.numbers());
-    for refusal in 1..=13 {
+    for refusal in REFUSALS {
         assert!(tally.refused(refusal) > 200, "{} refused {refusal}", tally.refused(refusal));
     }
 }
@@ -128,8 +129,7 @@ fn distances(road: &Road) -> [[u32; 2]; 2] {
     [[listed[0], listed[1]], not_judged]
 }
 
-/// Two roads that differ only in the grade behind a break: the listing and the marks go by the least grade, even where it is
-/// that at the road's end and no height changes with it.
+/// Two roads that differ only in the grade behind a curve: the listing and the marks go by the least grade, wherever it is.
 #[test]
 fn roads_that_differ_in_their_least_grade() {
     for place in [0, 20, 29] {
@@ -142,13 +142,22 @@ fn roads_that_differ_in_their_least_grade() {
             assert_eq!(distances(&road), [[stopping, decision]; 2], "{road:?}");
             let required = |purpose: u32| required_distance(90, purpose, grade.into());
             assert_eq!([0, 1].map(required), [Ok(stopping), Ok(decision)]);
-            let heights = [&level, &road].map(|road| {
-                let mut heights = [0; 301];
-                exports::file_heights(&bytes(road), &mut heights).expect("the road is accepted");
-                heights
-            });
-            assert_eq!(heights[0] == heights[1], place == 29);
         }
+    }
+}
+
+/// A grade counts even where no metre of the road has it: behind a break at the road's end, and between two breaks at one
+/// station. No height changes with it, and at 90 km/h a road that falls by 0.01 % needs 5 m less to stop than a level one.
+#[test]
+fn grades_that_no_metre_has() {
+    let broken = |pvi: u32, grade_out: i16| Curve { pvi, length: 0, grade_out };
+    let with = |curves: &[Curve]| Road { length: 300, curves: curves.to_vec(), ..road(0, &[]) };
+    let level = with(&[]);
+    assert_eq!(distances(&level), [[160, 170]; 2]);
+    for curves in [&[broken(300, -1)][..], &[broken(100, -1), broken(100, 0)]] {
+        let road = with(curves);
+        assert_eq!(distances(&road), [[155, 170]; 2], "{road:?}");
+        assert_eq!(heights::of_road(&road), heights::of_road(&level), "{road:?}");
     }
 }
 

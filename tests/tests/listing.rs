@@ -5,7 +5,8 @@ use sight_tests::random::Random;
 use sight_tests::reference::file::{bytes, read};
 use sight_tests::reference::listing::listing;
 use sight_tests::reference::road::{Curve, Road};
-use sight_tests::roads::{self, EXAMPLE};
+use sight_tests::roads::{self, EXAMPLE, EXAMPLE_LISTING, REFUSALS, SHARP_BREAK};
+use sight_tests::tally::Tally;
 
 /// Compares what the program prints with the second calculation. Answers the text.
 fn compare(file: &[u8]) -> String {
@@ -18,8 +19,8 @@ fn compare(file: &[u8]) -> String {
 #[test]
 fn example_of_the_rules() {
     assert_eq!(*include_bytes!("../../roads/example.vcp"), EXAMPLE);
-    let lines = "VCP 1 20 25 25\nS 78 96\nD 78 96\ns 276 300\nd 276 300\n";
-    assert_eq!(compare(&EXAMPLE), lines);
+    assert_eq!(compare(&EXAMPLE), EXAMPLE_LISTING);
+    assert_eq!(compare(&SHARP_BREAK), "refused 25\n", "document 01's example");
 }
 
 /// The distances are those on the least of the road's grades, wherever it stands, or on the level if none is negative.
@@ -32,7 +33,7 @@ fn distances_on_the_least_grade() {
         (100, -600, "175 190"),
         (-600, -300, "175 190"),
     ] {
-        let curves = vec![Curve { pvi: 100, length: 0, grade_out }];
+        let curves = vec![Curve { pvi: 99, length: 2, grade_out }];
         let road = Road { speed: 90, purpose: 1, length: 100, start_height: 0, first_grade, curves };
         assert_eq!(compare(&bytes(&road)), format!("VCP 1 90 {distances}\ns 0 100\nd 0 100\n"));
     }
@@ -73,7 +74,7 @@ fn longest_file() {
     road.speed = 30;
     let file = bytes(&road);
     assert_eq!(file.len(), 208);
-    assert!(compare(&file).starts_with("VCP 1 30 35 "));
+    assert!(compare(&file).starts_with("VCP 1 30 40 "));
     for more in [1, 2, 100_000] {
         assert_eq!(compare(&[file.clone(), vec![0; more]].concat()), "refused 5\n", "{more} bytes more");
     }
@@ -84,18 +85,20 @@ fn longest_file() {
 fn refused_files() {
     assert_eq!(compare(&[]), "refused 1\n");
     let mut random = Random::new(43);
-    let mut met = [0; 14];
+    let mut tally = Tally::default();
     for round in 0..1_000 {
-        let fault = 1 + round % 13;
+        let fault = REFUSALS[round % REFUSALS.len()];
         let mut file = roads::faulty_file(&mut random, &[fault]);
         let mut refused = Err(fault);
-        if round % 7 == 0 {
+        if random.once_in(7) {
             file.extend((0..random.within(1..=400)).map(|_| random.bits() as u8));
             refused = read(&file).map(drop);
         }
         let Err(refusal) = refused else { continue };
         assert_eq!(compare(&file), format!("refused {refusal}\n"));
-        met[refusal as usize] += 1;
+        tally.count(Err(refusal));
     }
-    assert!(met[1..].iter().all(|&many| many > 20), "{met:?}");
+    for refusal in REFUSALS {
+        assert!(tally.refused(refusal) > 20, "{} refused {refusal}", tally.refused(refusal));
+    }
 }

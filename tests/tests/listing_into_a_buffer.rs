@@ -5,7 +5,7 @@ use sight_tests::lent;
 use sight_tests::random::Random;
 use sight_tests::reference::file::{bytes, read};
 use sight_tests::reference::listing::listing;
-use sight_tests::roads;
+use sight_tests::roads::{self, REFUSALS};
 
 /// Compares the listing in a buffer of so many bytes with the text of the second calculation. It is refused 14 where that does
 /// not fit.
@@ -27,7 +27,7 @@ fn random_files() {
         let room = random.within(2..=100);
         let file = match round % 4 {
             0 => {
-                let refusal = random.within(1..=13);
+                let refusal = random.one_of(&REFUSALS);
                 roads::faulty_file(&mut random, &[refusal])
             }
             1 => bytes(&roads::breaks(&mut random, room)),

@@ -8,7 +8,7 @@ use sight_tests::reference::file::{bytes, read};
 use sight_tests::reference::marks::{mark_road_file, runs};
 use sight_tests::reference::road::{Curve, Road};
 use sight_tests::reference::Answer;
-use sight_tests::roads::{self, EXAMPLE};
+use sight_tests::roads::{self, EXAMPLE, REFUSALS};
 use sight_tests::tally::{Bits, Tally};
 use vcp::{DECISION_LACKING, DECISION_NOT_JUDGED, REDUCED_DECISION, STOPPING_LACKING, STOPPING_NOT_JUDGED};
 
@@ -34,7 +34,16 @@ fn compare_accepted(random: &mut Random, file: &[u8]) -> Vec<u8> {
 #[test]
 fn example_of_the_rules() {
     let marks = compare_accepted(&mut Random::new(26), &EXAMPLE);
-    let zones: [&[[u16; 2]]; 8] = [&[[78, 96]], &[[78, 96]], &[], &[[276, 300]], &[[276, 300]], &[], &[], &[]];
+    let zones: [&[[u16; 2]]; 8] = [
+        &[[58, 87], [123, 148]],
+        &[[48, 87], [115, 149]],
+        &[[48, 57], [115, 122], [149, 149]],
+        &[[251, 300]],
+        &[[241, 300]],
+        &[],
+        &[],
+        &[],
+    ];
     for (bit, zones) in (0..).zip(zones) {
         assert_eq!(runs(&marks, bit), zones, "bit {bit}");
     }
@@ -147,11 +156,11 @@ fn refused_files() {
     for _ in 0..75_000 {
         let file = match random.within(0..=2) {
             0 => {
-                let refusal = random.within(1..=13);
+                let refusal = random.one_of(&REFUSALS);
                 roads::faulty_file(&mut random, &[refusal])
             }
             1 => {
-                let refusals: Vec<u32> = (0..random.within(2..=5)).map(|_| random.within(1..=13)).collect();
+                let refusals: Vec<u32> = (0..random.within(2..=5)).map(|_| random.one_of(&REFUSALS)).collect();
                 roads::faulty_file(&mut random, &refusals)
             }
             _ => roads::noise(&mut random),
@@ -163,7 +172,7 @@ fn refused_files() {
         assert_eq!(answer, Err(refusal));
         tally.count(answer);
     }
-    for refusal in 1..=13 {
+    for refusal in REFUSALS {
         assert!(tally.refused(refusal) > 1_000, "{} refused {refusal}", tally.refused(refusal));
     }
 }

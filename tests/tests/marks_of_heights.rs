@@ -5,13 +5,12 @@ use sight_tests::heights;
 use sight_tests::lent;
 use sight_tests::random::Random;
 use sight_tests::reference::file::bytes;
-use sight_tests::reference::marks::{marks, EYE, OBJECT};
+use sight_tests::reference::marks::{marks, runs, EYE, OBJECT};
 use sight_tests::reference::road::{Curve, Road};
 use sight_tests::reference::sight::{available_sight, whole_heights, Look};
 use sight_tests::reference::Answer;
-use sight_tests::roads::EXAMPLE;
 use sight_tests::tally::{Bits, Tally};
-use vcp::{DECISION_LACKING, DECISION_NOT_JUDGED, REDUCED_DECISION, STOPPING_LACKING, STOPPING_NOT_JUDGED};
+use vcp::{DECISION_LACKING, DECISION_NOT_JUDGED, STOPPING_LACKING, STOPPING_NOT_JUDGED};
 
 /// What the distances are asked by.
 #[derive(Clone, Copy, Debug)]
@@ -63,15 +62,18 @@ fn expect_bits(marks: &[u8], heights: &[i32], stopping: usize, decision: usize) 
     }
 }
 
-/// The heights of the rules' example: on grade 0, where it has a reduced decision zone, and on the road's own.
+/// A ridge that no road may have, up by 15 % to station 100 and down again: on grade 0, where document 01 prints its
+/// zones, and on −15 %, where document 02 does.
 #[test]
-fn bits_of_the_example() {
+fn bits_of_a_ridge() {
     let mut random = Random::new(22);
-    let heights = heights::of_file(&EXAMPLE);
-    for (grade, stopping, reduced) in [(0, 20, 6), (-1_500, 25, 0)] {
+    let heights: Vec<i32> = (0..=300).map(|station: i32| 1_500 * (100 - (station - 100).abs())).collect();
+    let level: [&[[u16; 2]]; 5] = [&[[83, 95]], &[[78, 96]], &[[78, 82], [96, 96]], &[[281, 300]], &[[276, 300]]];
+    let downhill: [&[[u16; 2]]; 5] = [&[[78, 96]], &[[78, 96]], &[], &[[276, 300]], &[[276, 300]]];
+    for (grade, stopping, zones) in [(0, 20, level), (-1_500, 25, downhill)] {
         let marks = compare_all(&mut random, Drive { grade, ..SLOW }, &heights);
         expect_bits(&marks, &heights, stopping, 25);
-        assert_eq!(marks.iter().filter(|&mark| mark & REDUCED_DECISION != 0).count(), reduced, "grade {grade}");
+        assert_eq!([0, 1, 2, 3, 4].map(|bit| runs(&marks, bit)), zones, "grade {grade}");
     }
 }
 

@@ -141,7 +141,7 @@ fn random_runs_of_short_crests() {
 fn random_roads_of_every_kind() {
     let mut random = Random::new(55);
     let mut met = Met::default();
-    for _ in 0..500 {
+    for _ in 0..1_500 {
         let road = roads::any_road(&mut random);
         let distance = random.within(1..=60);
         compare_and_count(&mut random, &mut met, &heights::of_road(&road), distance);

@@ -4,6 +4,7 @@ use std::collections::BTreeMap;
 
 use sight_tests::lister;
 use sight_tests::pages::{block, has_public, links, prose, quoted, root, table, text};
+use sight_tests::roads::SHARP_BREAK;
 
 const RULES: &str = "docs/RULES.md";
 
@@ -141,9 +142,12 @@ fn definitions_are_those_of_the_files() {
 #[test]
 fn listing_of_the_rules() {
     let rules = text(RULES);
-    let bytes =
-        rules.split("hexadecimal bytes ").nth(1).and_then(|rest| rest.split(" gives").next()).expect("the bytes");
-    let file: Vec<u8> = bytes.split_whitespace().map(|byte| u8::from_str_radix(byte, 16).expect("a byte")).collect();
+    let [file, sharp] = [1, 2].map(|place| {
+        let words = rules.split("hexadecimal bytes").nth(place).expect("the bytes").split_whitespace();
+        let bytes = words.map_while(|word| u8::from_str_radix(word.trim_end_matches(','), 16).ok());
+        bytes.collect::<Vec<_>>()
+    });
+    assert_eq!(sharp, SHARP_BREAK);
     let printed = lister::output(&file);
     assert_eq!(block(&rules, "```"), printed.lines().collect::<Vec<_>>());
     assert_eq!(printed, text("crates/lister/stdout"));

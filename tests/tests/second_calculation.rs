@@ -10,19 +10,34 @@ use sight_tests::roads::{self, EXAMPLE};
 /// The example's road, read by hand.
 #[test]
 fn road_of_the_example() {
+    let curve = |pvi: u32, length: u16, grade_out: i16| Curve { pvi, length, grade_out };
     let road = Road {
-        speed: 20,
+        speed: 40,
         purpose: 1,
         length: 300,
         start_height: 0,
-        first_grade: 1_500,
-        curves: vec![Curve { pvi: 100, length: 0, grade_out: -1_500 }],
+        first_grade: 600,
+        curves: vec![curve(100, 10, -600), curve(130, 10, 600), curve(160, 10, -600), curve(200, 0, -550)],
     };
     assert_eq!(read(&EXAMPLE), Ok(road.clone()));
     assert_eq!(bytes(&road), EXAMPLE);
     let mut filled = [0; 301];
     assert_eq!(heights(&road, &mut filled), Ok(301));
-    assert_eq!([0, 1, 100, 101, 200, 300].map(|station| filled[station]), [0, 1_500, 150_000, 148_500, 0, -150_000]);
+    for (station, height) in [
+        (0, 0),
+        (1, 600),
+        (95, 57_000),
+        (100, 58_500),
+        (105, 57_000),
+        (130, 43_500),
+        (160, 58_500),
+        (165, 57_000),
+        (200, 36_000),
+        (201, 35_450),
+        (300, -19_000),
+    ] {
+        assert_eq!(filled[station], height, "station {station}");
+    }
 }
 
 /// What is read from a written road is that road; a road over 32 curves is refused 4 before all else.

@@ -155,7 +155,7 @@ fn random_runs_of_short_crests() {
     let mut random = Random::new(15);
     let mut met = Met::default();
     let (mut missed_by_nearest, mut missed_by_late) = (0, 0);
-    for _ in 0..4_000 {
+    for _ in 0..5_000 {
         let room = random.within(2..=80);
         let road = roads::run_of_crests(&mut random, room);
         let road = roads::gentler(road, random.one_of(&[1, 1, 1, 100]));

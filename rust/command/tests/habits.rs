@@ -15,7 +15,7 @@ use common::{command, expect_error, folder, root, run, run_with, Ended};
 use sight_tests::random::Random;
 use sight_tests::reference::file::bytes;
 use sight_tests::reference::passing::RANGES;
-use sight_tests::roads::{self, EXAMPLE};
+use sight_tests::roads::{self, EXAMPLE, SHARP_BREAK, SHARP_BREAK_REASON};
 
 /// Where a file's name stands in a call.
 const FILE: &str = "FILE";
@@ -133,7 +133,9 @@ fn refused_and_empty_files() {
     file[5] = 19;
     fs::write(folder.join("slow.vcp"), file).unwrap();
     fs::write(folder.join("empty"), b"").unwrap();
+    fs::write(folder.join("sharp.vcp"), SHARP_BREAK).unwrap();
     for command in OF_ROADS {
+        expect_refused(&folder, command, "sharp.vcp", 25, SHARP_BREAK_REASON);
         expect_refused(&folder, command, "slow.vcp", 6, "the speed is not 20 to 130 km/h");
         expect_refused(&folder, command, "empty", 1, "the file has fewer than 16 bytes");
     }
@@ -383,6 +385,12 @@ fn help_is_true() {
     let example = help.lines().filter_map(|line| line.strip_prefix("  ")).take(6);
     let text: String = example.map(|line| format!("{line}\n")).collect();
     assert_eq!(run_with(&folder, &["road", "-"], text.as_bytes()).0.status, 0, "{text}");
+    assert!(words("road").contains("One of length 0 is a break in grade: by more than 0.50 % it is refused 25."));
+    for (grade, refused) in [("-2.50", false), ("-1.50", false), ("-2.51", true), ("-1.49", true)] {
+        let text = format!("{text}curve 900 m, 0 m, {grade} %\n");
+        let ended = run_with(&folder, &["road", "-"], text.as_bytes()).0;
+        assert_eq!((ended.status == 1, ended.errors.starts_with("-:7: refused 25: ")), (refused, refused), "{text}");
+    }
 }
 
 #[test]

@@ -9,7 +9,8 @@ use sight_tests::lister;
 use sight_tests::random::Random;
 use sight_tests::reference::file::{bytes, read};
 use sight_tests::reference::listing::listing;
-use sight_tests::roads::{self, EXAMPLE};
+use sight_tests::roads::{self, EXAMPLE, EXAMPLE_LISTING, REFUSALS, SHARP_BREAK, SHARP_BREAK_REASON};
+use sight_tests::tally::Tally;
 
 /// Any road file, good or faulty, runs of short crests first of all.
 fn any_file(random: &mut Random, round: u32) -> Vec<u8> {
@@ -27,7 +28,7 @@ fn any_file(random: &mut Random, round: u32) -> Vec<u8> {
         // Many of these are long, and the second calculation is slow.
         6 if random.once_in(10) => roads::careless_file(random),
         _ => {
-            let refusal = random.within(1..=13);
+            let refusal = random.one_of(&REFUSALS);
             roads::faulty_file(random, &[refusal])
         }
     }
@@ -58,20 +59,23 @@ fn without_reasons(errors: &str) -> String {
 fn many_files() {
     let folder = folder("list_many");
     let mut random = Random::new(81);
-    let mut met = [0; 14];
+    let mut tally = Tally::default();
     for batch in 0..20 {
         let files: Vec<(String, Vec<u8>)> =
             (0..100).map(|round| (format!("{batch}-{round}.vcp"), any_file(&mut random, round))).collect();
         for (name, file) in &files {
             fs::write(folder.join(name), file).expect("a file is written");
-            met[read(file).err().unwrap_or(0) as usize] += 1;
+            tally.count(read(file).map(|road| road.length));
         }
         let arguments: Vec<&str> = ["list"].into_iter().chain(files.iter().map(|(name, _)| name.as_str())).collect();
         let ended = run(&folder, &arguments);
         let ended = Ended { errors: without_reasons(&ended.errors), ..ended };
         assert_eq!(ended, expected(&files));
     }
-    assert!(met[0] > 1_000 && met[1..].iter().all(|&many| many > 5), "{met:?}");
+    assert!(tally.numbers() > 1_000, "{} accepted", tally.numbers());
+    for refusal in REFUSALS {
+        assert!(tally.refused(refusal) > 5, "{} refused {refusal}", tally.refused(refusal));
+    }
 }
 
 /// What it prints is what the proved lister prints, of a refused file too.
@@ -90,12 +94,11 @@ fn same_as_the_lister() {
 fn example_of_the_rules() {
     let folder = folder("list_example");
     fs::write(folder.join("a.vcp"), EXAMPLE).expect("a file is written");
-    let text = "VCP 1 20 25 25\nS 78 96\nD 78 96\ns 276 300\nd 276 300\n";
-    common::expect(&folder, &["list", "a.vcp"], text);
-    common::expect(&folder, &["list", "--", "a.vcp"], text);
-    common::expect(&folder, &["list", "a.vcp", "a.vcp"], &text.repeat(2));
+    common::expect(&folder, &["list", "a.vcp"], EXAMPLE_LISTING);
+    common::expect(&folder, &["list", "--", "a.vcp"], EXAMPLE_LISTING);
+    common::expect(&folder, &["list", "a.vcp", "a.vcp"], &EXAMPLE_LISTING.repeat(2));
     let ended = run_with(&folder, &["list", "-"], &EXAMPLE).0;
-    assert_eq!(ended, Ended { output: text.to_string(), errors: String::new(), status: 0 });
+    assert_eq!(ended, Ended { output: EXAMPLE_LISTING.to_string(), errors: String::new(), status: 0 });
 }
 
 /// After a refused file, and one that is not there, it goes on; the status is that of the worst.
@@ -103,14 +106,24 @@ fn example_of_the_rules() {
 fn goes_on_after_a_refused_file() {
     let folder = folder("list_goes_on");
     fs::write(folder.join("a.vcp"), EXAMPLE).expect("a file is written");
-    fs::write(folder.join("b.vcp"), &EXAMPLE[..21]).expect("a file is written");
-    let text = "VCP 1 20 25 25\nS 78 96\nD 78 96\ns 276 300\nd 276 300\n";
+    fs::write(folder.join("b.vcp"), &EXAMPLE[..39]).expect("a file is written");
+    fs::write(folder.join("d.vcp"), SHARP_BREAK).expect("a file is written");
     let refused = "b.vcp: refused 5: the file's total length is not 16 bytes and 6 for each curve\n";
     let ended = run(&folder, &["list", "a.vcp", "b.vcp", "a.vcp"]);
-    assert_eq!(ended, Ended { output: format!("{text}refused 5\n{text}"), errors: refused.to_string(), status: 1 });
+    assert_eq!(
+        ended,
+        Ended {
+            output: format!("{EXAMPLE_LISTING}refused 5\n{EXAMPLE_LISTING}"),
+            errors: refused.to_string(),
+            status: 1
+        }
+    );
     let ended = run(&folder, &["list", "c.vcp", "b.vcp", "a.vcp"]);
     let errors = format!("c.vcp: No such file or directory\n{refused}");
-    assert_eq!(ended, Ended { output: format!("refused 5\n{text}"), errors, status: 2 });
+    assert_eq!(ended, Ended { output: format!("refused 5\n{EXAMPLE_LISTING}"), errors, status: 2 });
+    let ended = run(&folder, &["list", "d.vcp", "a.vcp"]);
+    let errors = format!("d.vcp: refused 25: {SHARP_BREAK_REASON}\n");
+    assert_eq!(ended, Ended { output: format!("refused 25\n{EXAMPLE_LISTING}"), errors, status: 1 });
 }
 
 /// A file's name stays on its line, and changes nothing on a terminal. It may look like an option.

@@ -9,7 +9,7 @@ use sight_tests::random::Random;
 use sight_tests::reference::distances::required_distance;
 use sight_tests::reference::file::bytes;
 use sight_tests::reference::marks::{marks, runs};
-use sight_tests::reference::road::{heights, marking_grade, Road};
+use sight_tests::reference::road::{heights, marking_grade, Curve, Road};
 use sight_tests::roads::{self, EXAMPLE};
 
 /// The report that the README shows, of a road by this name.
@@ -364,10 +364,9 @@ fn refused_surveys() {
 fn grades_of_roads() {
     let folder = folder("report_grades");
     for (first, last, grade) in [(0, 0, "0.00"), (300, 1, "0.00"), (-5, 0, "-0.05"), (1_500, -1_234, "-12.34")] {
-        let mut file = EXAMPLE;
-        file[13..15].copy_from_slice(&i16::to_le_bytes(first));
-        file[20..22].copy_from_slice(&i16::to_le_bytes(last));
-        let ended = run_with(&folder, &["report", "-"], &file).0;
+        let curves = vec![Curve { pvi: 100, length: 2, grade_out: last }];
+        let road = Road { speed: 20, purpose: 1, length: 300, start_height: 0, first_grade: first, curves };
+        let ended = run_with(&folder, &["report", "-"], &bytes(&road)).0;
         let title = format!("-: 20 km/h, decision A, marked with grade {grade} %, from station 0 to 300 (rising)\n");
         assert!(ended.output.starts_with(&title), "{ended:?}");
     }

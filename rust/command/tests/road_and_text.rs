@@ -7,10 +7,10 @@ use std::io::Read;
 use std::os::unix::fs::{symlink, PermissionsExt};
 use std::process::Command;
 
-use common::{command, expect, expect_error, folder, names, run, run_with};
+use common::{command, expect, expect_error, folder, names, root, run, run_with};
 use sight_tests::random::Random;
 use sight_tests::reference::file::bytes;
-use sight_tests::roads;
+use sight_tests::roads::{self, SHARP_BREAK, SHARP_BREAK_REASON};
 
 const GOOD: &str = "speed 80 km/h\npurpose 1\nlength 1000 m\nstart height 100.00 m\nfirst grade 0.00 %\n";
 const GOOD_FILE: &[u8] = b"VCP\x01\0\x50\x01\xE8\x03\x40\x42\x0F\0\0\0\0";
@@ -110,6 +110,30 @@ fn bad_texts_write_nothing() {
     expect_error(&folder, &["road", "a.txt", "-o", "b.vcp"], 1, line);
     expect_error(&folder, &["road", "a.txt"], 1, line);
     assert_eq!(names(&folder), ["a.txt", "a.vcp"]);
+}
+
+/// A sharp break is refused with its line and its reason, as the README says of the shipped text with a unit more; a road file that
+/// has one has no text.
+#[test]
+fn sharp_breaks() {
+    let folder = folder("sharp_breaks");
+    let shipped = fs::read_to_string(root().join("roads/example.txt")).unwrap();
+    fs::create_dir(folder.join("roads")).unwrap();
+    fs::write(folder.join("roads/x.txt"), shipped.replace("-5.50 %", "-5.49 %")).unwrap();
+    let refused = format!("refused 25: {SHARP_BREAK_REASON}");
+    let line = format!("roads/x.txt:11: {refused}");
+    expect_error(&folder, &["road", "roads/x.txt", "-o", "x.vcp"], 1, &format!("{line}\n"));
+    let readme = fs::read_to_string(root().join("README.md")).unwrap();
+    assert!(readme.replace('\n', " ").contains(&format!("`{line}`")));
+    fs::write(folder.join("old.vcp"), SHARP_BREAK).unwrap();
+    expect_error(&folder, &["text", "old.vcp", "-o", "old.txt"], 1, &format!("old.vcp: {refused}\n"));
+    assert_eq!(names(&folder), ["old.vcp", "roads"]);
+    // The grade in of the first curve is the first grade, and of two sharp breaks the first is named.
+    for (grade, line) in [("5.50", 7), ("5.49", 6)] {
+        let breaks = format!("curve 0 m, 0 m, {grade} %\ncurve 1000 m, 0 m, 0 %\n");
+        fs::write(folder.join("x.txt"), GOOD.replace("0.00 %", "6.00 %") + &breaks).unwrap();
+        expect_error(&folder, &["road", "x.txt"], 1, &format!("x.txt:{line}: {refused}\n"));
+    }
 }
 
 /// Bytes that are no text may stand in a comment.

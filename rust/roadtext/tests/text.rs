@@ -7,7 +7,8 @@ use roadtext::{road_file, road_text, Fault};
 use sight_tests::random::Random;
 use sight_tests::reference::file::{bytes, read};
 use sight_tests::reference::road::{verdict, Curve, Road};
-use sight_tests::roads;
+use sight_tests::roads::{self, OF_ROAD, REFUSALS};
+use sight_tests::tally::Tally;
 
 /// A number of hundredths or of ten-thousandths in decimals, with some of the zeros that may be left out.
 fn decimal(random: &mut Random, number: i64, decimals: usize) -> String {
@@ -121,10 +122,10 @@ fn every_grade_and_small_heights() {
     let mut road = Road {
         speed: 80,
         purpose: 1,
-        length: 1,
+        length: 2,
         start_height: 0,
         first_grade: 0,
-        curves: vec![Curve { pvi: 1, length: 0, grade_out: 0 }],
+        curves: vec![Curve { pvi: 1, length: 2, grade_out: 0 }],
     };
     for number in -1_500..=1_500 {
         road.first_grade = number;
@@ -152,7 +153,7 @@ fn example_of_the_format() {
         length: 1_500,
         start_height: 1_025_000,
         first_grade: 400,
-        curves: vec![Curve { pvi: 480, length: 60, grade_out: -200 }, Curve { pvi: 900, length: 0, grade_out: -275 }],
+        curves: vec![Curve { pvi: 480, length: 60, grade_out: -200 }, Curve { pvi: 900, length: 0, grade_out: -250 }],
     };
     assert_eq!(road_file(&text), Ok(bytes(&road)));
 }
@@ -168,7 +169,8 @@ fn text_of_a_road() {
         first_grade: -5,
         curves: vec![
             Curve { pvi: 1_000, length: 2_000, grade_out: 1_500 },
-            Curve { pvi: 2_000, length: 0, grade_out: -1_010 },
+            Curve { pvi: 2_000, length: 0, grade_out: 1_450 },
+            Curve { pvi: 2_002, length: 4, grade_out: -1_010 },
         ],
     };
     let text = "\
@@ -179,7 +181,8 @@ start height -0.005 m
 first grade -0.05 %
 # PVI, length, grade out
 curve 1000 m, 2000 m, 15.00 %
-curve 2000 m, 0 m, -10.10 %
+curve 2000 m, 0 m, 14.50 %
+curve 2002 m, 4 m, -10.10 %
 ";
     assert_eq!(road_text(&bytes(&road)).as_deref(), Ok(text));
     for (start_height, height) in [(0, "0.00"), (1, "0.0001"), (-10_000_000, "-1000.00"), (89_999_990, "8999.999")] {
@@ -195,7 +198,7 @@ const GOOD: [&str; 7] = [
     "start height 0 m",
     "first grade 3 %",
     "curve 100 m, 20 m, -3 %",
-    "curve 200 m, 0 m, 1.5 %",
+    "curve 200 m, 0 m, -2.5 %",
 ];
 
 const NAMES: [&str; 5] = ["speed", "purpose", "length", "start height", "first grade"];
@@ -355,10 +358,10 @@ fn blamed(road: &Road, written: &Written) -> Option<(usize, u32)> {
 #[test]
 fn refused_roads() {
     let mut random = Random::new(53);
-    let (mut met, mut of_curves) = ([0; 14], 0);
+    let (mut tally, mut of_curves) = (Tally::default(), 0);
     for _ in 0..5_000 {
         let mut road = roads::any_road(&mut random);
-        let mut refusals: Vec<u32> = (0..random.within(1..=3)).map(|_| random.within(6..=13)).collect();
+        let mut refusals: Vec<u32> = (0..random.within(1..=3)).map(|_| random.one_of(OF_ROAD)).collect();
         // The higher numbers first, so that a curve is spoilt on a road whose other numbers are still good.
         refusals.sort_unstable_by(|one, other| other.cmp(one));
         for refusal in refusals {
@@ -373,10 +376,12 @@ fn refused_roads() {
         let [Fault { line: at, reason, refused: true }] = &faults[..] else { panic!("{faults:?}") };
         assert_eq!(*at, line, "{reason}\n{}", written.text);
         assert!(reason.starts_with(&format!("refused {refusal}: ")), "{reason}\n{}", written.text);
-        met[refusal as usize] += 1;
+        tally.count(Err(refusal));
         of_curves += usize::from(written.curves.contains(&line));
     }
-    assert!(met[4] > 100 && met[6..].iter().all(|&many| many > 100), "{met:?}");
+    for refusal in [&[4], OF_ROAD].concat() {
+        assert!(tally.refused(refusal) > 100, "{} refused {refusal}", tally.refused(refusal));
+    }
     assert!(of_curves > 500, "{of_curves} of curves");
 }
 
@@ -384,7 +389,7 @@ fn refused_roads() {
 fn one_curve_too_many() {
     for curves in [32, 33, 34, 255, 256, 257, 300, 1_000] {
         let mut lines = GOOD[..5].to_vec();
-        lines.extend(vec!["curve 500 m, 0 m, 0 %"; curves]);
+        lines.extend(vec!["curve 500 m, 0 m, 3 %"; curves]);
         let answer = road_file(&lines.join("\n"));
         if curves == 32 {
             assert!(answer.is_ok());
@@ -399,7 +404,7 @@ fn one_curve_too_many() {
 fn one_curve_too_many_and_another_fault() {
     for (line, text) in [(1, "speed 131 km/h"), (5 + 5, "curve 500 m, 1 m, 0 %")] {
         let mut lines = GOOD[..5].to_vec();
-        lines.extend(["curve 500 m, 0 m, 0 %"; 33]);
+        lines.extend(["curve 500 m, 0 m, 3 %"; 33]);
         lines[line - 1] = text;
         let too_many = fault(5 + 33, "refused 4: there are more than 32 curves");
         assert_eq!(road_file(&lines.join("\n")), Err(vec![too_many]), "{text}");
@@ -413,19 +418,21 @@ fn one_curve_too_many_and_another_fault() {
 #[test]
 fn damaged_files() {
     let mut random = Random::new(54);
-    let mut met = [0; 14];
+    let mut tally = Tally::default();
     for round in 0..5_000 {
-        let file = match round % 14 {
-            0 => roads::noise(&mut random),
-            refusal => roads::faulty_file(&mut random, &[refusal]),
+        let file = match REFUSALS.get(round % (REFUSALS.len() + 1)) {
+            None => roads::noise(&mut random),
+            Some(&refusal) => roads::faulty_file(&mut random, &[refusal]),
         };
         match read(&file) {
             Err(refusal) => {
                 assert_eq!(road_text(&file).map_err(|refusal| refusal.number()), Err(refusal), "{file:02X?}");
-                met[refusal as usize] += 1;
+                tally.count(Err(refusal));
             }
             Ok(_) => assert_eq!(road_file(&road_text(&file).expect("it is accepted")), Ok(file)),
         }
     }
-    assert!(met[1..].iter().all(|&many| many > 200), "{met:?}");
+    for refusal in REFUSALS {
+        assert!(tally.refused(refusal) > 200, "{} refused {refusal}", tally.refused(refusal));
+    }
 }

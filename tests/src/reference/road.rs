@@ -33,7 +33,7 @@ impl Curve {
     }
 }
 
-/// Refusals 4 and 6 to 13, in the rules' order.
+/// Refusals 4, 6 to 13 and 25, in the rules' order.
 pub fn verdict(road: &Road) -> Result<(), u32> {
     let grade_in_range = |grade: i16| (-1_500..=1_500).contains(&grade);
     if road.curves.len() > 32 {
@@ -54,6 +54,7 @@ pub fn verdict(road: &Road) -> Result<(), u32> {
     if !grade_in_range(road.first_grade) {
         return Err(10);
     }
+    let mut grade_in = road.first_grade;
     for (place, curve) in road.curves.iter().enumerate() {
         if !grade_in_range(curve.grade_out) {
             return Err(10);
@@ -67,6 +68,10 @@ pub fn verdict(road: &Road) -> Result<(), u32> {
         if place > 0 && curve.begin() < road.curves[place - 1].end() {
             return Err(13);
         }
+        if curve.length == 0 && grade_in.abs_diff(curve.grade_out) > 50 {
+            return Err(25);
+        }
+        grade_in = curve.grade_out;
     }
     Ok(())
 }

@@ -164,9 +164,9 @@ fn greys() {
     }
 }
 
-/// A picture to the byte: the rules' example with a passing distance of 120 m.
+/// A picture to the byte: the rules' example with a passing distance of 100 m.
 #[test]
 fn a_picture_that_was_looked_at() {
     let road = read(&EXAMPLE).expect("the road is accepted");
-    assert!(Drawn::of(&road).picture_with_passing(&road, 120) == include_str!("passing.svg"));
+    assert!(Drawn::of(&road).picture_with_passing(&road, 100) == include_str!("passing.svg"));
 }
