@@ -65,6 +65,10 @@ impl fmt::Display for Fault {
 ///
 /// let faults = roadtext::road_file(&text.replace("100 m, 2 m", "100 m, 3 m")).unwrap_err();
 /// assert_eq!(faults[0].to_string(), "6: refused 11: a curve's length is odd or over 2,000 m");
+///
+/// let faults = roadtext::road_file(&text.replace("100 m, 2 m", "100 m, 0 m")).unwrap_err();
+/// let reason = "the grades of a curve of length 0 differ by more than 50 hundredths of a percent (0.5 %)";
+/// assert_eq!(faults[0].to_string(), format!("6: refused 25: {reason}"));
 /// ```
 pub fn road_file(text: &str) -> Result<Vec<u8>, Vec<Fault>> {
     let road = read_lines(text)?;
