@@ -118,10 +118,11 @@ fn curves_verdict(road: Road) -> Verdict
 {
     let count = road.count as usize;
     let n = road.length;
+    let first_grade = road.first_grade;
     let mut before = Curve {
         pvi: 0,
         length: 0,
-        grade_out: road.first_grade,
+        grade_out: first_grade,
     };
     let mut i: usize = 0;
     while i < count {

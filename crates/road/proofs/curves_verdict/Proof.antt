@@ -1,13 +1,15 @@
 -- `curves_verdict` meets its contract. The loop's invariant: the verdict of all curves is that of the curves from `i` on, the one
 -- just before them being `before`. The measure is the number of curves left. `curves-verdict-step` is the turn.
 use Prim.Native.Nat.{_≤_, _-_, _+_}
-use mathlib.Core.Path.{_≡_, refl, sym, _∙_}
+use mathlib.Core.Path.{_≡_, ap, sym, _∙_}
 use borrow.Author.Needs.{needs}
 use native.Mathlib.Omega.{arith}
+use lib.IntN.{ℤ}
 use lib.ListN.{length, getD, drop}
 use mir.Syntax.{w16}
 use Rattle.whole.proofs.Machine.{got}
 use Rattle.terms.specs.Answers.{firstFault}
+use Rattle.terms.specs.declared.Verdict.{Verdict}
 use Rattle.road.specs.Road.{startOf, noCurve, curvesOf, curvesVerdict}
 use Rattle.road.proofs.Faults.{curves-verdict-step, curves-verdict-end}
 use Rattle.road.proofs.Places.{curve-places}
@@ -15,10 +17,10 @@ use Rattle.road.proofs.curves_verdict.Statement.{statement}
 use Rattle.road.proofs.curves_verdict.Tie as tie
 
 abbrev Inv-loop : tie.InvT-loop
-Inv-loop road count n before₀ i₀ before i = (i ≤ count) × (curvesVerdict n (startOf road) (curvesOf road) ≡ curvesVerdict n before (drop i (curvesOf road)))
+Inv-loop road count n first before₀ i₀ before i = (i ≤ count) × (curvesVerdict n (startOf road) (curvesOf road) ≡ curvesVerdict n before (drop i (curvesOf road)))
 
 abbrev μ-loop : tie.MeasureT-loop
-μ-loop road count n before₀ i₀ before i = count - i
+μ-loop road count n first before₀ i₀ before i = count - i
 
 -- the curves in use are among the road's places
 in-use : (c : tie.Start Inv-loop μ-loop) → c .args .t1 .count ≤ length (c .args .t1 .curves)
@@ -28,7 +30,10 @@ cast-count : tie.Need-cast-count Inv-loop μ-loop
 cast-count c = search needs
 
 loop-holds : tie.Need-loop-holds Inv-loop μ-loop
-loop-holds c = (search needs, rw (got w16 _ (c .struct-told .given .1 .1 .1 .1 .0 .1)) refl)
+loop-holds c =
+    let road = c .before .args .t1 in
+    let from : ℤ → Verdict = λ g. curvesVerdict (road .length) record { pvi = 0; length = 0; «grade_out» = g } (curvesOf road) in
+    (search needs, sym (ap from (got w16 (road .«first_grade») (c .struct-told .given .1 .1 .1 .1 .0 .1))))
 
 mul-c : tie.Need-mul-c Inv-loop μ-loop
 mul-c c = search needs
