@@ -100,3 +100,7 @@ manoeuvreRefused = 24
 -- a plain break in grade whose grades differ by more than 50
 abbrev pub sharpBreakRefused : ℕ
 sharpBreakRefused = 25
+
+-- a place beyond the last curve
+abbrev pub noCurveRefused : ℕ
+noCurveRefused = 26

@@ -67,6 +67,8 @@ pub const MANOEUVRE_REFUSED: u8 = 24;
 
 pub const SHARP_BREAK_REFUSED: u8 = 25;
 
+pub const NO_CURVE_REFUSED: u8 = 26;
+
 // ---- limits
 // Speeds in km/h.
 pub const LEAST_SPEED: u32 = 20;
