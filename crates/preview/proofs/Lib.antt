@@ -1,0 +1,3 @@
+pub mod Differing
+pub mod Ends
+pub mod SameGrade
