@@ -3,5 +3,13 @@
 include!("../link.rs");
 
 fn main() {
-    link(&["curve_exports", "sight_exports", "marks_exports", "passing_exports", "file_exports", "listing_exports"]);
+    link(&[
+        "curve_exports",
+        "sight_exports",
+        "marks_exports",
+        "passing_exports",
+        "file_exports",
+        "preview_exports",
+        "listing_exports",
+    ]);
 }

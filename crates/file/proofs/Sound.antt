@@ -7,16 +7,17 @@ use native.Mathlib.Omega.{arith}
 use borrow.Author.Tests.{le-ltb, eq-eqb}
 use mir.Facts.{or-no}
 use lib.Dec.{ltb, eqb, nltb→le}
-use lib.ListN.{length}
+use lib.ListN.{length, length-replicate}
+use Rattle.whole.proofs.Fill.{filled-length}
 use Rattle.terms.specs.Limits.{greatestCurveCount}
 use Rattle.terms.specs.Refusals.{shortFileRefused, lettersRefused, versionRefused, curveCountRefused, totalRefused}
 use Rattle.terms.specs.declared.Verdict.{Verdict}
 use Rattle.terms.specs.declared.Verdict.the-variants.{Accepted}
 use Rattle.terms.proofs.Laws.{ByteFault, fault-accepted, first-fault-accepted, fault-byte, first-fault-byte, no-difference}
-use Rattle.road.specs.Road.{roadVerdict}
+use Rattle.road.specs.Road.{noCurve, roadVerdict}
 use Rattle.road.proofs.Faults.{road-verdict-byte}
 use Rattle.file.specs.declared.ReadRoad.{ReadRoad}
-use Rattle.file.specs.File.{byteAt, numberAt, fileLength, curveCount, letters, version, roadIn}
+use Rattle.file.specs.File.{byteAt, numberAt, fileLength, curveCount, curveAt, letters, version, roadIn}
 use Rattle.file.specs.Reading.{differs, headerVerdict, readVerdict, roadOrNone, readRoad}
 
 -- ---- the header
@@ -56,6 +57,11 @@ sound-file s f =
     let h = f .header in
     simp (le-ltb (length s) (fileLength 0) (omega arith), eq-eqb _ _ (h .letter-V), eq-eqb _ _ (h .letter-C), eq-eqb _ _ (h .letter-P), eq-eqb _ _ (h .first-version), le-ltb _ _ (h .count), eq-eqb _ _ (h .total))
     (f .road)
+
+-- ---- the road in a file has 32 curve places
+pub places-in : (s : List ℕ) → length (roadIn s .curves) ≡ greatestCurveCount
+unfolding roadIn
+places-in s = filled-length (curveAt s) 0 (curveCount s) _ ∙ length-replicate greatestCurveCount noCurve
 
 -- ---- what reading answers, by its verdict
 pub read-by : (s : List ℕ) (v : Verdict) → readVerdict s ≡ v → readRoad s ≡ record { verdict = v; road = roadOrNone v (roadIn s) }

@@ -1,11 +1,13 @@
 //! The proved operations that the van does not call, safe to call from the command `vcp` and from the tests: the functions
-//! of the crates `curve_exports`, `sight_exports`, `marks_exports`, `passing_exports`, `file_exports` and `listing_exports`.
+//! of the crates `curve_exports`, `sight_exports`, `marks_exports`, `passing_exports`, `file_exports`, `preview_exports` and
+//! `listing_exports`.
 //!
 //! Units are those of docs/RULES.md: metres along the road, h-units (tenths of a millimetre) for heights, hundredths of a
 //! percent for grades, uphill positive, and km/h; those of passing stand at [`Manoeuvre`].
 //!
 //! Each function takes any input and ends: it answers, or refuses by one of the numbers of docs/RULES.md, and a refusal leaves a
-//! lent list as it was. A list that is filled has the answer as the number of places that were written; later ones stay.
+//! lent list as it was. A list that is filled has the answer as the number of places that were written, but for [`preview`], which
+//! says what it answers; later places stay.
 
 #![deny(missing_docs)]
 
@@ -88,6 +90,24 @@ extern "C" {
     fn vcp_rewrite(file: *const u8, file_length: usize, out: *mut u8, out_length: usize) -> i64;
     fn vcp_file_heights(file: *const u8, file_length: usize, list: *mut i32, list_length: usize) -> i64;
     fn vcp_file_downgrade(file: *const u8, file_length: usize) -> i64;
+    fn vcp_change_length(
+        file: *const u8,
+        file_length: usize,
+        place: u32,
+        length: u32,
+        out: *mut u8,
+        out_length: usize,
+    ) -> i64;
+    fn vcp_preview(
+        file: *const u8,
+        file_length: usize,
+        place: u32,
+        length: u32,
+        before: *mut u8,
+        before_length: usize,
+        after: *mut u8,
+        after_length: usize,
+    ) -> i64;
     fn vcp_list_road_file(file: *const u8, file_length: usize, text: *mut u8, text_length: usize) -> i64;
 }
 
@@ -229,6 +249,41 @@ pub fn file_grade(file: &[u8]) -> Result<i32, Refusal> {
     let downgrade = refusal::answer(unsafe { vcp_file_downgrade(file.as_ptr(), file.len()) })?;
     // The proved function answers the grade without its sign: it is never positive, and a negative answer would be a refusal.
     Ok(-(downgrade as i32))
+}
+
+/// Reads a road file and writes the file of its road with another length, in metres, of the curve at a place, counted from 0. A
+/// buffer of as many bytes as the file has holds it.
+///
+/// # Errors
+/// Refused 1 to 13 and 25 as reading the file refuses it, 26 if the place is beyond the last curve, 11 to 13 and 25 as the changed
+/// road is refused, then 14 if the buffer is too short.
+pub fn change_length(file: &[u8], place: u32, length: u32, out: &mut [u8]) -> Result<u32, Refusal> {
+    // SAFETY: as for `sight_profile`.
+    refusal::answer(unsafe { vcp_change_length(file.as_ptr(), file.len(), place, length, out.as_mut_ptr(), out.len()) })
+}
+
+/// Reads a road file, marks its road into the first list, and into the second the road with another length, in metres, of the
+/// curve at a place, counted from 0; answers at how many stations the two differ. `vcp::mark_road_file` says what the bits mean.
+/// Each list has a mark for each station at its front, and what is behind stays; a list of [`MARKED_STATIONS`] holds any road's. The
+/// call needs about 40 KiB of the thread's stack.
+///
+/// # Errors
+/// Refused 1 to 13 and 25 as reading the file refuses it, 26 if the place is beyond the last curve, 11 to 13 and 25 as the changed
+/// road is refused, then 14 if either list has fewer places than the road has stations. Then both lists are what they were.
+pub fn preview(file: &[u8], place: u32, length: u32, before: &mut [u8], after: &mut [u8]) -> Result<u32, Refusal> {
+    // SAFETY: as for `sight_profile`; the two mutable borrows do not overlap.
+    refusal::answer(unsafe {
+        vcp_preview(
+            file.as_ptr(),
+            file.len(),
+            place,
+            length,
+            before.as_mut_ptr(),
+            before.len(),
+            after.as_mut_ptr(),
+            after.len(),
+        )
+    })
 }
 
 /// Writes the listing of a road file, for a refused one the line of its refusal. A buffer of [`GREATEST_LISTING`] bytes holds

@@ -6,7 +6,7 @@
 use std::error::Error;
 use std::fmt;
 
-/// Why there is no answer: one of the numbers of docs/RULES.md, 1 to 25, with its reason in words.
+/// Why there is no answer: one of the numbers of docs/RULES.md, 1 to 26, with its reason in words.
 ///
 /// ```
 /// let refusal = refusal::answer(-6).unwrap_err();
@@ -18,8 +18,8 @@ pub struct Refusal {
     number: u32,
 }
 
-/// The reasons of refusals 1 to 25, in order.
-const REASONS: [&str; 25] = [
+/// The reasons of refusals 1 to 26, in order.
+const REASONS: [&str; 26] = [
     "the file has fewer than 16 bytes",
     "the file does not begin with the letters VCP",
     "the file's version is not 1",
@@ -46,6 +46,7 @@ const REASONS: [&str; 25] = [
     "of the manoeuvre t1 is not 3.6 to 4.5 s, a not 2.25 to 2.41 km/h/s, v not 30 to 130 km/h, m not 10 to 20 km/h, \
      t2 not 9.3 to 11.3 s or d3 not 30 to 90 m",
     "the grades of a curve of length 0 differ by more than 50 hundredths of a percent (0.5 %)",
+    "there is no curve at this place: places are counted from 0",
 ];
 
 impl Refusal {
@@ -100,13 +101,13 @@ mod tests {
     #[test]
     fn each_number_has_its_own_reason() {
         let reason = |number: u32| Refusal { number }.reason();
-        let mut reasons: Vec<&str> = (1..=25).map(reason).collect();
+        let mut reasons: Vec<&str> = (1..=26).map(reason).collect();
         assert_eq!(reasons[5], "the speed is not 20 to 130 km/h");
         assert_eq!(reasons[22], "the lent list holds fewer than two numbers for each zone");
         reasons.sort_unstable();
         reasons.dedup();
-        assert_eq!(reasons.len(), 25);
-        assert!([0, 26, u32::MAX].iter().all(|&number| !reasons.contains(&reason(number))));
+        assert_eq!(reasons.len(), 26);
+        assert!([0, 27, u32::MAX].iter().all(|&number| !reasons.contains(&reason(number))));
     }
 
     #[test]
