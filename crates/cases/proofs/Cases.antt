@@ -2,7 +2,7 @@
 use mathlib.Core.Path.{refl}
 use Rattle.whole.specs.Fill.{filled}
 use Rattle.whole.specs.Floor.{floorDiv}
-use Rattle.distance.specs.Distance.{requiredDistance, metresFor, levelMetres, gradedMetres, levelParts, gradedParts, upToFive}
+use Rattle.distance.specs.Distance.{requiredDistance, distancesFor, metresFor, levelMetres, gradedMetres, levelParts, gradedParts, upToFive}
 use Rattle.distance.specs.PassingDistance.{passingDistance, passingParts, initialParts, leftLaneParts, oncomingParts, manoeuvreOutside}
 use Rattle.curve_lengths.specs.Lengths.{crestLength, sagLength, lengthVerdict, leastEven, longEnough, reachesMinimum, adequate, withinRoot}
 use Rattle.road.specs.Road.{roadVerdict, numbersVerdict, curvesVerdict, curveVerdict}
@@ -11,11 +11,15 @@ use Rattle.heights.specs.Heights.{heightsAnswer, heightsList, ownHeights}
 use Rattle.verdicts.specs.Verdicts.{sightVerdict, lookVerdict, passingVerdict}
 use Rattle.sight.specs.Sight.{availableSight, sightFrom, reach, seen, everyBetween, every, clears}
 use Rattle.sight.specs.Operations.{sightAnswer}
+use Rattle.road_distances.specs.RoadDistances.{leastGrade, roadDistances}
+use Rattle.marks.specs.Marks.{markOf}
+use Rattle.change.specs.Change.{withLength, changeVerdict}
+use Rattle.preview.specs.Preview.{differing, previewVerdict, previewAnswer}
 use Rattle.passing.specs.Passing.{passingMark, passingAnswer, passingList}
-use Rattle.cases.specs.Cases.{StarredCases, curve, roadOf, crestRoad, breaksRoad, heightAt, leastAdequate, manoeuvre, passingOver}
+use Rattle.cases.specs.Cases.{StarredCases, curve, roadFor, roadOf, crestRoad, breaksRoad, heightAt, crestAndSag, triedWith, leastAdequate, manoeuvre, passingOver}
 
 pub starred-cases : StarredCases
-unfolding requiredDistance metresFor levelMetres gradedMetres levelParts gradedParts upToFive passingDistance passingParts initialParts leftLaneParts oncomingParts manoeuvreOutside manoeuvre crestLength sagLength lengthVerdict leastAdequate leastEven longEnough reachesMinimum adequate withinRoot roadVerdict numbersVerdict curvesVerdict curveVerdict heightAt ownHeights heightsList heightsAnswer filled storedHeight exactHeight exactFrom floorDiv breaksRoad crestRoad roadOf curve sightVerdict lookVerdict sightAnswer availableSight sightFrom reach seen everyBetween every clears passingOver passingList passingAnswer passingVerdict passingMark
+unfolding requiredDistance metresFor levelMetres gradedMetres levelParts gradedParts upToFive passingDistance passingParts initialParts leftLaneParts oncomingParts manoeuvreOutside manoeuvre crestLength sagLength lengthVerdict leastAdequate leastEven longEnough reachesMinimum adequate withinRoot roadVerdict numbersVerdict curvesVerdict curveVerdict heightAt ownHeights heightsList heightsAnswer filled storedHeight exactHeight exactFrom floorDiv breaksRoad crestAndSag crestRoad roadOf roadFor curve changeVerdict withLength triedWith previewAnswer previewVerdict differing roadDistances leastGrade distancesFor markOf sightVerdict lookVerdict sightAnswer availableSight sightFrom reach seen everyBetween every clears passingOver passingList passingAnswer passingVerdict passingMark
 starred-cases = record {
   distances = (refl, refl, refl, refl, refl, refl);
   passing = (refl, refl, refl, refl);
@@ -24,6 +28,8 @@ starred-cases = record {
   sags = (refl, refl, refl, refl, refl);
   heights = (refl, refl, refl, refl, refl, refl);
   breaks = (refl, refl, refl, refl, refl);
+  changes = (refl, refl, refl, refl, refl, refl, refl, refl);
+  previews = (refl, refl, refl);
   sights = (refl, refl, refl);
   passing-marks = (refl, refl, refl);
 }

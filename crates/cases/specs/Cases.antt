@@ -6,7 +6,7 @@ use Prim.Native.Nat.{ℕ, _*_, _-_, _/_}
 use lib.IntN.{ℤ, pos, negℤ}
 use lib.ListN.{length, getD, replicate}
 use Rattle.terms.specs.Limits.{stoppingPurpose, greatestCurveCount, eyeHeight, objectHeight}
-use Rattle.terms.specs.Refusals.{sharpBreakRefused}
+use Rattle.terms.specs.Refusals.{curveOrderRefused, sharpBreakRefused, noCurveRefused}
 use Rattle.terms.specs.declared.Answer.{Answer}
 use Rattle.terms.specs.declared.Answer.the-variants.{Number}
 use Rattle.terms.specs.declared.Verdict.the-variants.{Accepted, Fault}
@@ -19,23 +19,29 @@ use Rattle.road.specs.declared.Road.{Road}
 use Rattle.road.specs.Road.{noCurve, roadVerdict}
 use Rattle.heights.specs.Heights.{ownHeights}
 use Rattle.sight.specs.Operations.{sightAnswer}
+use Rattle.change.specs.Change.{changeVerdict}
+use Rattle.preview.specs.Preview.{previewAnswer}
 use Rattle.passing.specs.Passing.{passingList}
 
 -- a curve by its PVI, its length and its grade out
 unfoldable pub curve : ℕ → ℕ → ℤ → Curve
 curve p l g = record { pvi = p; length = l; «grade_out» = g }
 
--- start 0, N 100, with this first grade and these curves
-unfoldable pub roadOf : ℤ → List Curve → Road
-roadOf g cs = record {
-  speed = 80;
+-- start 0 and decision A, with this speed, this N, this first grade and these curves
+unfoldable pub roadFor : ℕ → ℕ → ℤ → List Curve → Road
+roadFor v n g cs = record {
+  speed = v;
   purpose = 1;
-  length = 100;
+  length = n;
   «start_height» = pos 0;
   «first_grade» = g;
   count = length cs;
   curves = cs ++ replicate (greatestCurveCount - length cs) noCurve;
 }
+
+-- at 80 km/h, N 100
+unfoldable pub roadOf : ℤ → List Curve → Road
+roadOf g cs = roadFor 80 100 g cs
 
 -- first grade 300, one curve with PVI 50, grade −300 and this length
 unfoldable pub crestRoad : ℕ → Road
@@ -48,6 +54,15 @@ heightAt l x = getD (ownHeights (crestRoad l)) x (negℤ (pos 1))
 -- first grade 300, and two breaks at station 50 with these grades out
 unfoldable pub breaksRoad : ℕ → ℕ → Road
 breaksRoad g h = roadOf (pos 300) (curve 50 0 (pos g) ∷ curve 50 0 (pos h) ∷ [])
+
+-- first grade 300, a crest and a sag of 20 m each, with PVI 30 and 60
+unfoldable pub crestAndSag : Road
+crestAndSag = roadOf (pos 300) (curve 30 20 (negℤ (pos 300)) ∷ curve 60 20 (pos 300) ∷ [])
+
+-- what Preview answers for another length of a crest of 2 m: at 20 km/h, N 40, first grade 900, PVI 20, grade −900, the lists just long enough
+unfoldable pub triedWith : ℕ → Answer
+triedWith l =
+    previewAnswer (roadFor 20 40 (pos 900) (curve 20 2 (negℤ (pos 900)) ∷ [])) 0 l (replicate 41 255) (replicate 41 255)
 
 -- the least even adequate length of a crest with this drop and sight distance, whatever the speed is: e = 10,800 and o = 6,000
 unfoldable pub leastAdequate : ℕ → ℕ → Answer
@@ -113,6 +128,22 @@ pub record StarredCases : Type 0 where
       × (roadVerdict (breaksRoad 351 351) ≡ Fault sharpBreakRefused)
       × (roadVerdict (breaksRoad 250 301) ≡ Fault sharpBreakRefused)
       × (roadVerdict (crestRoad 0) ≡ Fault sharpBreakRefused)
+  -- Trying another length: places beyond the one curve, also with an odd length; no length left; up to the sag, and into it; and a road
+  -- that is refused as it is, at a place beyond its curve, and where the length would mend it
+  pub changes :
+      (changeVerdict (crestRoad 20) 0 40 ≡ Accepted)
+      × (changeVerdict (crestRoad 20) 1 40 ≡ Fault noCurveRefused)
+      × (changeVerdict (crestRoad 20) 31 41 ≡ Fault noCurveRefused)
+      × (changeVerdict (crestRoad 20) 0 0 ≡ Fault sharpBreakRefused)
+      × (changeVerdict crestAndSag 0 40 ≡ Accepted)
+      × (changeVerdict crestAndSag 0 42 ≡ Fault curveOrderRefused)
+      × (changeVerdict (crestRoad 0) 1 20 ≡ Fault sharpBreakRefused)
+      × (changeVerdict (crestRoad 0) 0 20 ≡ Fault sharpBreakRefused)
+  -- Trying another length: at how many stations the marks differ
+  pub previews :
+      (triedWith 10 ≡ Number 4)
+      × (triedWith 20 ≡ Number 12)
+      × (triedWith 2 ≡ Number 0)
   -- What can be seen: from station 0 with farthest 8
   pub sights :
       (sightAnswer (pos 0 ∷ pos 20 ∷ pos 0 ∷ pos 100 ∷ []) 0 10 5 8 ≡ Number 1)
