@@ -2,20 +2,22 @@
 
 use std::array;
 
-use picture::{svg, Curve, Passing, Profile};
+use picture::{preview, svg, Curve, Passing, Preview, Profile};
 
+use crate::random::Random;
 use crate::reference::distances::required_distance;
 use crate::reference::marks::{marks, runs};
 use crate::reference::passing::passing_marks;
-use crate::reference::road::{heights, marking_grade, Road};
+use crate::reference::road::{heights, marking_grade, verdict, Road};
 
-/// The grade that an accepted road is marked with, the distances for stopping and for the decision, the curves, the heights
-/// and the zones.
+/// The grade that an accepted road is marked with, the distances for stopping and for the decision, the curves, the heights,
+/// the marks and the zones.
 pub struct Drawn {
     pub grade: i32,
     pub distances: [u32; 2],
     pub curves: Vec<Curve>,
     pub heights: Vec<i32>,
+    pub marks: Vec<u8>,
     pub zones: [Vec<[u16; 2]>; 5],
 }
 
@@ -38,6 +40,7 @@ impl Drawn {
             curves: curves.collect(),
             heights: list,
             zones: array::from_fn(|bit| runs(&marked, bit as u32)),
+            marks: marked,
         }
     }
 
@@ -63,6 +66,11 @@ impl Drawn {
         svg(&self.profile(road, None))
     }
 
+    /// The number of stations whose marks are not those of another road.
+    pub fn differing(&self, other: &Drawn) -> u32 {
+        self.marks.iter().zip(&other.marks).filter(|(own, other)| own != other).count() as u32
+    }
+
     /// The zones where passing sight of so many metres is lacking, and those where passing is not judged.
     pub fn passing_zones(&self, distance: u32) -> [Vec<[u16; 2]>; 2] {
         let mut marked = vec![0; self.heights.len()];
@@ -74,5 +82,53 @@ impl Drawn {
     pub fn picture_with_passing(&self, road: &Road, distance: u32) -> String {
         let zones = &self.passing_zones(distance);
         svg(&self.profile(road, Some(Passing { distance, zones })))
+    }
+}
+
+/// An accepted road, and the same road with another length of one curve.
+pub struct Change {
+    pub before: Road,
+    pub after: Road,
+    pub place: usize,
+}
+
+impl Change {
+    /// The road with another length of the curve at a place; none where that is refused.
+    pub fn of(before: &Road, place: usize, length: u16) -> Option<Change> {
+        let (before, mut after) = (before.clone(), before.clone());
+        after.curves[place].length = length;
+        verdict(&after).is_ok().then_some(Change { before, after, place })
+    }
+
+    /// Any accepted length of any curve, its own too, and most often the longest; none where the road has no curve.
+    pub fn any(random: &mut Random, road: &Road) -> Option<Change> {
+        let last = road.curves.len().checked_sub(1)?;
+        let place = random.within(0..=last as u32) as usize;
+        let mut changes: Vec<Change> = (0..=1_000).filter_map(|half| Change::of(road, place, 2 * half)).collect();
+        let longest = changes.len() as u32 - 1;
+        let length = if random.once_in(3) { random.within(0..=longest) } else { longest };
+        Some(changes.swap_remove(length as usize))
+    }
+
+    /// The same of a road whose other curves leave room: each is 2 m long or a break.
+    pub fn with_room(random: &mut Random, road: &Road) -> Option<Change> {
+        let mut road = road.clone();
+        road.curves.iter_mut().for_each(|curve| curve.length = curve.length.min(2));
+        Change::any(random, &road)
+    }
+
+    /// What is drawn of the road as it is, and of the changed one.
+    pub fn drawn(&self) -> [Drawn; 2] {
+        [&self.before, &self.after].map(Drawn::of)
+    }
+
+    /// The picture of both, from what is drawn of them.
+    pub fn picture(&self, [before, after]: &[Drawn; 2]) -> String {
+        preview(&Preview {
+            before: before.profile(&self.before, None),
+            after: after.profile(&self.after, None),
+            place: self.place,
+            differing: before.differing(after),
+        })
     }
 }

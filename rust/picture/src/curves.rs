@@ -16,14 +16,22 @@ const NUMBERS: i64 = 64;
 
 impl Picture<'_> {
     /// The curves behind a key of their shapes, each a crest or a sag by the grades before and behind it. One that changes no
-    /// grade is not drawn.
+    /// grade is not drawn. Over the changed curve of a preview lies its shape as it is.
     pub fn curves(&self, out: &mut Formatter) -> fmt::Result {
         out.write_str(KEY)?;
         let mut grade_in = self.profile.first_grade;
-        for curve in self.profile.curves {
+        for (place, curve) in self.profile.curves.iter().enumerate() {
             if curve.grade_out != grade_in {
+                let crest = curve.grade_out < grade_in;
+                let class = if crest { "crest" } else { "sag" };
                 self.pvi(out, curve)?;
-                self.shape(out, curve, curve.grade_out < grade_in)?;
+                match self.preview.and_then(|preview| preview.old_curve(place)) {
+                    None => self.shape(out, curve, crest, class)?,
+                    Some(old) => {
+                        self.shape(out, curve, crest, &format!("{class} changed"))?;
+                        self.shape(out, old, crest, "old")?;
+                    }
+                }
             }
             grade_in = curve.grade_out;
         }
@@ -38,8 +46,7 @@ impl Picture<'_> {
 
     /// A curve from its begin to its end, a filled hump over a crest and an open bowl over a sag; or a break, a triangle
     /// that stands on its foot at a crest and on its point in a sag.
-    fn shape(&self, out: &mut Formatter, curve: &Curve, crest: bool) -> fmt::Result {
-        let class = if crest { "crest" } else { "sag" };
+    fn shape(&self, out: &mut Formatter, curve: &Curve, crest: bool, class: &str) -> fmt::Result {
         let (pvi, half) = (i64::from(curve.pvi), i64::from(curve.length / 2));
         let [from, middle, to] = [pvi - half, pvi, pvi + half].map(|station| self.sheet.x(station));
         if curve.length == 0 {
@@ -51,9 +58,16 @@ impl Picture<'_> {
         }
     }
 
-    /// The curves' numbers, above them, where there is room.
+    /// The curves' places, counted from 0, above them, where there is room. The changed curve of a preview has its own, and those
+    /// beside it give way.
     pub fn curve_numbers(&self, out: &mut Formatter) -> fmt::Result {
-        let numbers = self.profile.curves.iter().map(|curve| i64::from(curve.pvi)).zip(1..);
+        let station = |curve: &Curve| i64::from(curve.pvi);
+        let changed = self.preview.and_then(|preview| Some((preview.place, self.profile.curves.get(preview.place)?)));
+        let has_room = |&(pvi, place): &(i64, usize)| match changed {
+            Some((own, curve)) if own != place => (pvi - station(curve)).abs() >= self.sheet.room(NUMBERS),
+            _ => true,
+        };
+        let numbers = self.profile.curves.iter().map(station).zip(0..).filter(has_room);
         for (pvi, number) in self.sheet.apart(numbers, NUMBERS) {
             writeln!(out, r#"<text class="middle" x="{}" y="11500">{number}</text>"#, self.sheet.x(pvi))?;
         }

@@ -1,4 +1,5 @@
-//! A road's picture, in SVG: its profile, the zones along it, and its curves; and a page of the distances on a level road.
+//! A road's picture, in SVG: its profile, the zones along it, and its curves; the same of a road before and after a change of
+//! one curve; and a page of the distances on a level road.
 //!
 //! This only draws. Heights, distances and zones are handed over as the proved functions give them, and where they lie on
 //! the sheet is worked out in whole numbers. Any profile is drawn: what would lie outside the plot lies at its edge, and only
@@ -10,11 +11,13 @@
 use std::fmt::{self, Formatter};
 
 pub use crate::page::{level_page, LevelPage, LevelRow};
-use crate::sheet::{Sheet, BOTTOM, LEFT, RIGHT, SHEET_WIDTH};
+pub use crate::preview::{preview, Preview};
+use crate::sheet::{Sheet, BOTTOM, LEFT, RIGHT, SHEET_WIDTH, STRIP_STEP};
 
 mod axes;
 mod curves;
 mod page;
+mod preview;
 mod sheet;
 mod zones;
 
@@ -95,12 +98,14 @@ impl Profile<'_> {
 /// assert!(picture.contains("20 km/h, marked with grade &#8722;15.00 %: stopping sight 25 m, decision sight 25 m (purpose 1)"));
 /// ```
 pub fn svg(profile: &Profile) -> String {
-    Picture { profile, sheet: Sheet::of(profile.heights, profile.rows().count()) }.to_string()
+    let sheet = Sheet::of(&[profile.heights], profile.rows().count(), STRIP_STEP);
+    Picture { profile, preview: None, sheet }.to_string()
 }
 
-/// A profile on its sheet.
+/// A profile on its sheet. Of a preview it is that of the changed road.
 struct Picture<'a> {
     profile: &'a Profile<'a>,
+    preview: Option<&'a Preview<'a>>,
     sheet: Sheet,
 }
 
@@ -121,6 +126,7 @@ impl fmt::Display for Picture<'_> {
     fn fmt(&self, out: &mut Formatter) -> fmt::Result {
         self.opening(out)?;
         self.headings(out)?;
+        self.differing(out)?;
         self.earth(out)?;
         self.tint(out)?;
         self.station_axis(out)?;
@@ -129,6 +135,7 @@ impl fmt::Display for Picture<'_> {
         self.curves(out)?;
         self.curve_numbers(out)?;
         self.road(out)?;
+        self.old_road(out)?;
         out.write_str("</svg>\n")
     }
 }
@@ -138,9 +145,10 @@ impl Picture<'_> {
     fn opening(&self, out: &mut Formatter) -> fmt::Result {
         let height = self.sheet.height();
         let passing = if self.profile.passing.is_some() { include_str!("passing.css") } else { "" };
+        let preview = if self.preview.is_some() { include_str!("preview.css") } else { "" };
         write!(out, r#"<svg xmlns="http://www.w3.org/2000/svg" viewBox="0 0 {SHEET_WIDTH} {height}" "#)?;
         writeln!(out, r#"width="{}" height="{}">"#, SHEET_WIDTH / 100, height / 100)?;
-        writeln!(out, "<style>\n{}{passing}</style>", include_str!("style.css"))?;
+        writeln!(out, "<style>\n{}{passing}{preview}</style>", include_str!("style.css"))?;
         writeln!(out, r##"<rect width="{SHEET_WIDTH}" height="{height}" fill="#fff"/>"##)
     }
 
@@ -150,8 +158,9 @@ impl Picture<'_> {
         let Profile { speed, purpose, grade, stopping, decision, passing, .. } = *self.profile;
         let grade = decimal(grade.into(), 2, 2);
         let Sheet { length, exaggeration, .. } = self.sheet;
-        writeln!(out, "<title>Sight along the road, {length} m</title>")?;
-        writeln!(out, r#"<text class="title" x="1500" y="4200">Sight along the road, {length} m</text>"#)?;
+        let change = self.preview.map(Preview::change).unwrap_or_default();
+        writeln!(out, "<title>Sight along the road, {length} m{change}</title>")?;
+        writeln!(out, r#"<text class="title" x="1500" y="4200">Sight along the road, {length} m{change}</text>"#)?;
         write!(out, r#"<text class="sub" x="1500" y="7000">{speed} km/h, marked with grade {grade} %: "#)?;
         write!(out, "stopping sight {stopping} m, decision sight {decision} m (purpose {purpose})")?;
         if let Some(Passing { distance, .. }) = passing {
@@ -161,10 +170,15 @@ impl Picture<'_> {
         writeln!(out, r#"vertical exaggeration <tspan class="letter">{exaggeration} : 1</tspan></text>"#)
     }
 
+    /// The points of a line through these heights, from the station of the first on.
+    fn points(&self, first: i64, heights: &[i32]) -> String {
+        let point = |(station, &height): (i64, &i32)| format!(" {},{}", self.sheet.x(station), self.sheet.y(height));
+        (first..).zip(heights).map(point).collect()
+    }
+
     /// The profile as a line that is used by its name, and the earth below it.
     fn earth(&self, out: &mut Formatter) -> fmt::Result {
-        let point = |(station, &height): (i64, &i32)| format!(" {},{}", self.sheet.x(station), self.sheet.y(height));
-        let points: String = (0..).zip(self.profile.heights).map(point).collect();
+        let points = self.points(0, self.profile.heights);
         writeln!(out, r#"<defs><polyline id="profile" points="{points}"/></defs>"#)?;
         writeln!(out, r#"<polygon class="earth" points="{LEFT},{BOTTOM}{points} {RIGHT},{BOTTOM}"/>"#)
     }

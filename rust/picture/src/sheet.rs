@@ -1,7 +1,7 @@
 //! The geometry of a picture: where stations and heights lie on the sheet, and the steps of its axes.
 //!
 //! Coordinates are whole hundredths of a pixel, x to the right and y down, on a sheet that is 1,600 pixels wide, and
-//! 900 high where it has five strips of zones. Stations are metres, and heights h-units.
+//! 900 high where it has five strips of zones, 1,080 where it has five pairs of them. Stations are metres, and heights h-units.
 
 /// The sheet's width. Its height goes by its strips.
 pub const SHEET_WIDTH: i64 = 160_000;
@@ -21,9 +21,11 @@ pub const SHAPES: i64 = 13_000;
 /// Where the stations' numbers stand, below the plot.
 pub const STATIONS: i64 = 64_000;
 
-// The strips of zones: where the first begins, how far it is to the next, and where a strip's bars begin and how high they are.
-pub const STRIPS: i64 = 66_500;
+// The strips of zones: where the first begins, how far it is to the next, or from a pair of strips to the next pair, and where
+// a strip's bars begin and how high they are.
+const STRIPS: i64 = 66_500;
 pub const STRIP_STEP: i64 = 4_400;
+pub const PAIR_STEP: i64 = 8_000;
 pub const BARS: i64 = 1_500;
 pub const BAR_HEIGHT: i64 = 1_800;
 
@@ -53,24 +55,34 @@ pub struct Sheet {
     pub foot: i64,
     /// The h-units from the plot's lower edge to its upper one.
     pub shown: i64,
+    /// How far it is from one strip to the next.
+    strip_step: i64,
     /// y of the lower edge of the last strip.
     strips_foot: i64,
 }
 
 impl Sheet {
-    /// The sheet for a road with a height for each station: the profile in the middle of the plot, stretched as far as it
-    /// finds room, and so many strips below it.
-    pub fn of(heights: &[i32], strips: usize) -> Sheet {
+    /// The sheet for the profiles of one road, each with a height for each station: they are in the middle of the plot,
+    /// stretched as far as they find room, and there are so many strips below it, with a step from one to the next.
+    pub fn of(profiles: &[&[i32]], strips: usize, strip_step: i64) -> Sheet {
+        let stations = profiles.iter().map(|heights| heights.len()).max().unwrap_or(0);
         // With a length of 32 bits every product below fits 64.
-        let length = u32::try_from(heights.len().saturating_sub(1)).unwrap_or(u32::MAX).into();
-        let low = heights.iter().min().map_or(0, |&height| i64::from(height));
-        let high = heights.iter().max().map_or(0, |&height| i64::from(height));
+        let length = u32::try_from(stations.saturating_sub(1)).unwrap_or(u32::MAX).into();
+        let heights = || profiles.iter().flat_map(|heights| heights.iter().map(|&height| i64::from(height)));
+        let [low, high] = [heights().min(), heights().max()].map(|height| height.unwrap_or(0));
         let range = high - low;
         let fits = |&exaggeration: &i64| range <= showing(PROFILE_ROOM, exaggeration, length);
         let exaggeration = EXAGGERATIONS.into_iter().find(fits).unwrap_or(1);
         let shown = showing(HEIGHT, exaggeration, length);
-        let strips_foot = STRIPS + STRIP_STEP * strips as i64;
-        Sheet { length, exaggeration, foot: low - (shown - range).max(0) / 2, shown, strips_foot }
+        let foot = low - (shown - range).max(0) / 2;
+        let strips_foot = STRIPS + strip_step * strips as i64;
+        Sheet { length, exaggeration, foot, shown, strip_step, strips_foot }
+    }
+
+    /// y of the upper edges of the strips, one below the other.
+    pub fn strip_tops(&self) -> impl Iterator<Item = i64> {
+        let step = self.strip_step;
+        (0..).map(move |place| STRIPS + step * place)
     }
 
     /// The sheet's height.
@@ -112,10 +124,15 @@ impl Sheet {
         BOTTOM - (self.exaggeration * WIDTH * above).checked_div(self.length * METRE).unwrap_or(0)
     }
 
+    /// How far labels are apart: one part of so many of the road.
+    pub fn room(&self, parts: i64) -> i64 {
+        self.length / parts
+    }
+
     /// The labels with room between them, each with its station: one that is nearer to the last one kept than one part of so
     /// many of the road is left out.
     pub fn apart<T>(&self, labels: impl Iterator<Item = (i64, T)>, parts: i64) -> impl Iterator<Item = (i64, T)> {
-        let room = self.length / parts;
+        let room = self.room(parts);
         let mut free = 0;
         labels.filter(move |&(station, _)| {
             let fits = free <= station;

@@ -2,11 +2,22 @@
 
 use std::fmt::{self, Formatter};
 
-use crate::sheet::{BARS, BAR_HEIGHT, HEIGHT, LEFT, RIGHT, STRIPS, STRIP_STEP, TOP};
+use crate::sheet::{BARS, BAR_HEIGHT, HEIGHT, LEFT, RIGHT, TOP};
 use crate::{Picture, MEANINGS, PASSING_MEANINGS};
 
 /// The classes and letters of the strips, in the order of a profile's zones, and behind them those of passing.
 const LETTERS: [[&str; 2]; 7] = [["S", "S"], ["D", "D"], ["R", "R"], ["ns", "s"], ["nd", "d"], ["P", "P"], ["np", "p"]];
+
+/// Where the bars of a strip begin, and where the stations' numbers of its zones stand.
+#[derive(Clone, Copy)]
+struct Lane {
+    bars: i64,
+    labels: i64,
+}
+
+/// A strip with its labels above, and the lower one of a pair, with its labels below.
+const LANE: Lane = Lane { bars: BARS, labels: BARS - 300 };
+const LOWER_LANE: Lane = Lane { bars: BARS + BAR_HEIGHT + 200, labels: BARS + 2 * BAR_HEIGHT + 1_350 };
 
 /// The labels of zones are a twentieth of the road apart.
 const LABELS: i64 = 20;
@@ -52,43 +63,51 @@ impl Picture<'_> {
         Ok(())
     }
 
-    /// A strip for each list of zones.
+    /// A strip for each list of zones, in a group of its class; of a preview a pair of them.
     pub fn strips(&self, out: &mut Formatter) -> fmt::Result {
-        let tops = (0..).map(|place| STRIPS + STRIP_STEP * place);
         let meanings = MEANINGS.into_iter().chain(PASSING_MEANINGS);
-        for (((letter, meaning), zones), top) in LETTERS.into_iter().zip(meanings).zip(self.profile.rows()).zip(tops) {
-            self.strip(out, letter, meaning, zones, top)?;
+        let rows = LETTERS.into_iter().zip(meanings).zip(self.profile.rows());
+        let mut before = self.preview.iter().flat_map(|preview| preview.before.rows());
+        for ((([class, letter], meaning), zones), top) in rows.zip(self.sheet.strip_tops()) {
+            let name = format!(r#"<tspan class="letter">{letter}</tspan>&#160; {meaning}"#);
+            writeln!(out, r#"<g class="{class}" transform="translate(0 {top})">"#)?;
+            match before.next() {
+                None => self.strip(out, &name, zones, LANE)?,
+                Some(before) => self.pair(out, &name, [before, zones])?,
+            }
+            writeln!(out, "</g>")?;
         }
         Ok(())
     }
 
-    /// A strip, in a group of its class: the letter and its meaning, a bar for each zone, their stations and their number.
-    fn strip(
-        &self,
-        out: &mut Formatter,
-        [class, letter]: [&str; 2],
-        meaning: &str,
-        zones: &[[u16; 2]],
-        top: i64,
-    ) -> fmt::Result {
-        let foot = BARS + BAR_HEIGHT;
-        writeln!(out, r#"<g class="{class}" transform="translate(0 {top})">"#)?;
-        writeln!(out, r#"<path class="lane" d="M{LEFT} {BARS}H{RIGHT}V{foot}H{LEFT}Z"/>"#)?;
-        write!(out, r#"<path d="M1500 {BARS}H3100V{foot}H1500Z"/><text x="3800" y="2850">"#)?;
-        writeln!(out, r#"<tspan class="letter">{letter}</tspan>&#160; {meaning}</text>"#)?;
-        self.bars(out, zones, BARS, BAR_HEIGHT)?;
-        self.zone_labels(out, zones)?;
-        let plural = if zones.len() == 1 { "" } else { "s" };
-        writeln!(out, r#"<text x="151200" y="2850">{} zone{plural}</text>"#, zones.len())?;
-        writeln!(out, "</g>")
+    /// Two strips under one name: the zones of the road as it is, and below them those of the changed road.
+    fn pair(&self, out: &mut Formatter, name: &str, [before, after]: [&[[u16; 2]]; 2]) -> fmt::Result {
+        writeln!(out, r#"<text x="1500" y="{}">{name}</text>"#, LANE.labels)?;
+        writeln!(out, r#"<g class="before">"#)?;
+        self.strip(out, "before", before, LANE)?;
+        writeln!(out, "</g>")?;
+        self.strip(out, "after", after, LOWER_LANE)
     }
 
-    /// The zones' first and last stations, above them, where there is room.
-    fn zone_labels(&self, out: &mut Formatter, zones: &[[u16; 2]]) -> fmt::Result {
+    /// A strip: its name, a bar for each zone, their stations and their number.
+    fn strip(&self, out: &mut Formatter, name: &str, zones: &[[u16; 2]], lane: Lane) -> fmt::Result {
+        let Lane { bars, labels } = lane;
+        let (foot, line) = (bars + BAR_HEIGHT, bars + 1_350);
+        writeln!(out, r#"<path class="lane" d="M{LEFT} {bars}H{RIGHT}V{foot}H{LEFT}Z"/>"#)?;
+        write!(out, r#"<path d="M1500 {bars}H3100V{foot}H1500Z"/>"#)?;
+        writeln!(out, r#"<text x="3800" y="{line}">{name}</text>"#)?;
+        self.bars(out, zones, bars, BAR_HEIGHT)?;
+        self.zone_labels(out, zones, labels)?;
+        let plural = if zones.len() == 1 { "" } else { "s" };
+        writeln!(out, r#"<text x="151200" y="{line}">{} zone{plural}</text>"#, zones.len())
+    }
+
+    /// The zones' first and last stations, beside them, where there is room.
+    fn zone_labels(&self, out: &mut Formatter, zones: &[[u16; 2]], y: i64) -> fmt::Result {
         let middle = |&[first, last]: &[u16; 2]| (i64::from(first) + i64::from(last)) / 2;
         let labels = zones.iter().map(|zone| (middle(zone), zone));
         for (middle, [first, last]) in self.sheet.apart(labels, LABELS) {
-            write!(out, r#"<text class="zone" x="{}" y="1200">{first}"#, self.sheet.x(middle))?;
+            write!(out, r#"<text class="zone" x="{}" y="{y}">{first}"#, self.sheet.x(middle))?;
             if first < last {
                 write!(out, "&#8211;{last}")?;
             }

@@ -8,10 +8,10 @@ use sight_tests::random::Random;
 use crate::elements::{Element, Elements, Outline};
 use crate::rules::{HEIGHT, LEFT, TOP, WIDTH};
 
-const NO_ZONES: [Vec<[u16; 2]>; 5] = [const { Vec::new() }; 5];
+pub static NO_ZONES: [Vec<[u16; 2]>; 5] = [const { Vec::new() }; 5];
 
 /// A profile with these heights, curves and zones. If it has 1,281 heights, its stations are drawn a pixel apart.
-fn profile<'a>(heights: &'a [i32], curves: &'a [Curve], zones: &'a [Vec<[u16; 2]>; 5]) -> Profile<'a> {
+pub fn profile<'a>(heights: &'a [i32], curves: &'a [Curve], zones: &'a [Vec<[u16; 2]>; 5]) -> Profile<'a> {
     Profile {
         speed: 20,
         purpose: 1,
@@ -67,7 +67,7 @@ fn labels_give_way() {
     let zones = [vec![], vec![[0, 0], [60, 67], [64, 64], [100, 200]], vec![], vec![], vec![]];
     let all = Elements::of(&svg(&profile(&[0; 1_281], &curves, &zones)));
     let numbers: Vec<_> = all.with("y", "11500").map(Element::label).collect();
-    assert_eq!(numbers, [(32_000, "1"), (34_000, "3"), (36_100, "5")].map(|(x, text)| (x, text.to_string())));
+    assert_eq!(numbers, [(32_000, "0"), (34_000, "2"), (36_100, "4")].map(|(x, text)| (x, text.to_string())));
     let stations: Vec<_> = all.with("class", "zone").map(Element::label).collect();
     let shown = [(22_000, "0"), (28_400, "64"), (37_000, "100&#8211;200")];
     assert_eq!(stations, shown.map(|(x, text)| (x, text.to_string())));
@@ -193,7 +193,7 @@ fn absurd_numbers() {
     }
 }
 
-fn on_the_sheet(all: &Elements) {
+pub fn on_the_sheet(all: &Elements) {
     let (across, down) = (LEFT..=LEFT + WIDTH, TOP..=TOP + HEIGHT);
     for (x, y) in all.only("class", "earth").1.points() {
         assert!(across.contains(&x) && down.contains(&y), "{x}, {y}");
@@ -205,7 +205,7 @@ fn on_the_sheet(all: &Elements) {
         }
     }
     for Outline { points, .. } in &all.outlines()[3..] {
-        assert!(points.iter().all(|(x, y)| (0..=160_000).contains(x) && (0..=90_000).contains(y)), "{points:?}");
+        assert!(points.iter().all(|(x, y)| (0..=160_000).contains(x) && (0..=all.height()).contains(y)), "{points:?}");
     }
     // At most 16 steps of stations, of which a road's end is one, and 10 of heights.
     assert!(all.with("class", "grid").count() <= 17 + 11);

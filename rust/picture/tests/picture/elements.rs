@@ -127,10 +127,29 @@ impl Elements {
         self.0.iter().filter(move |element| element.within.last() == Some(&group))
     }
 
-    /// The curves' shapes, those of the key first, and the lines at their PVIs.
+    /// The place of the one group of a class that the group at a place holds itself.
+    pub fn group_in(&self, group: usize, class: &str) -> usize {
+        let own = |element: &Element| element.within.last() == Some(&group) && element.get("class") == class;
+        let mut hits = (0..self.0.len()).filter(|&place| own(&self.0[place]));
+        let hit = hits.next().unwrap_or_else(|| panic!("no group {class}"));
+        assert!(hits.next().is_none(), "two groups {class}");
+        hit
+    }
+
+    /// The curves' shapes, those of the keys first, and the lines at their PVIs.
     pub fn outlines(&self) -> Vec<Outline> {
-        let paths = self.0.iter().filter(|element| ["pvi", "crest", "sag"].contains(&element.get("class")));
+        let classes = ["pvi", "crest", "sag", "crest changed", "sag changed", "old"];
+        let paths = self.0.iter().filter(|element| classes.contains(&element.get("class")));
         paths.map(Element::outline).collect()
+    }
+
+    /// The height of the sheet.
+    pub fn height(&self) -> i64 {
+        let [left, top, width, height] = self.0[0].get("viewBox").split(' ').map(number).collect::<Vec<_>>()[..] else {
+            panic!("a picture has its size")
+        };
+        assert_eq!([left, top, width], [0, 0, 160_000]);
+        height
     }
 
     /// The texts in a group, those of the parts of a text too.

@@ -17,6 +17,7 @@ mod by_hand;
 mod elements;
 mod page;
 mod passing;
+mod preview;
 mod rules;
 
 /// The strips in the order of a profile's zones, and behind them those of passing: class, letter and meaning.
@@ -38,25 +39,27 @@ fn compare(road: &Road) -> usize {
     let text = drawn.picture(road);
     let all = Elements::of(&text);
     assert_eq!(all.0[0].name, "svg");
-    assert_eq!(all.0[0].get("viewBox"), "0 0 160000 90000");
-    compare_headings(road, &drawn, &plot, &text);
+    assert_eq!(all.height(), 90_000);
+    compare_headings(road, &drawn, &plot, &text, "");
     compare_profile(&drawn, &plot, &all);
     compare_zones(&drawn, &plot, &all);
     compare_strips(&drawn.zones, &plot, &all);
     compare_axes(&plot, &all);
-    compare_curves(road, &drawn, &plot, &all);
+    assert_eq!(all.outlines()[3..], plot.curves(road, &drawn.heights, None), "{road:?}");
+    compare_curve_numbers(road, None, &plot, &all);
     drawn.zones.iter().map(Vec::len).sum()
 }
 
-fn compare_headings(road: &Road, drawn: &Drawn, plot: &Plot, text: &str) {
+/// The title, which a change stands behind, and the line below it.
+fn compare_headings(road: &Road, drawn: &Drawn, plot: &Plot, text: &str, change: &str) {
     let (length, speed, purpose) = (road.length, road.speed, road.purpose);
     let ([stopping, decision], exaggeration) = (drawn.distances, plot.exaggeration);
     let minus = if drawn.grade < 0 { "&#8722;" } else { "" };
     let grade = format!("{minus}{}.{:02} %", drawn.grade.abs() / 100, drawn.grade.abs() % 100);
     let distances = format!("stopping sight {stopping} m, decision sight {decision} m (purpose {purpose});");
     for words in [
-        format!("<title>Sight along the road, {length} m</title>"),
-        format!(">Sight along the road, {length} m</text>"),
+        format!("<title>Sight along the road, {length} m{change}</title>"),
+        format!(">Sight along the road, {length} m{change}</text>"),
         format!(">{speed} km/h, marked with grade {grade}: {distances}"),
         format!("vertical exaggeration <tspan class=\"letter\">{exaggeration} : 1</tspan>"),
     ] {
@@ -97,7 +100,7 @@ fn compare_zones(drawn: &Drawn, plot: &Plot, all: &Elements) {
     let judged = all.only("id", "judged").0;
     let paths: Vec<_> = all.inside(judged).map(Element::path).collect();
     let right = plot.across(2 * i64::from(not_judged[0][0]) - 1);
-    assert_eq!(paths, [("MHVHZ".to_string(), vec![0, 0, right, 90_000, 0])]);
+    assert_eq!(paths, [("MHVHZ".to_string(), vec![0, 0, right, all.height(), 0])]);
 }
 
 /// A strip for each of these lists of zones, and no other.
@@ -108,13 +111,19 @@ fn compare_strips(lists: &[Vec<[u16; 2]>], plot: &Plot, all: &Elements) {
         assert_eq!(group.get("transform"), format!("translate(0 {})", 66_500 + 4_400 * place), "{class}");
         let words = format!("&#160; {meaning}");
         assert_eq!(all.words(strip).take(2).collect::<Vec<_>>(), [&words, letter], "{class}");
-        assert_eq!(all.rectangles(strip), plot.zones(zones, 1_500, 1_800), "{class}");
-        let labels = all.inside(strip).filter(|element| element.get("class") == "zone");
-        assert_eq!(labels.map(Element::label).collect::<Vec<_>>(), plot.zone_labels(zones), "{class}");
-        let plural = if zones.len() == 1 { "" } else { "s" };
-        let tally = format!("{} zone{plural}", zones.len());
-        assert!(all.inside(strip).any(|element| element.text == tally), "{tally}");
+        compare_strip(zones, 1_500, 1_200, plot, all, strip);
     }
+}
+
+/// A strip in a group: its bars from their upper edge on, the stations at a height, and their number.
+fn compare_strip(zones: &[[u16; 2]], top: i64, labels: i64, plot: &Plot, all: &Elements, group: usize) {
+    assert_eq!(all.rectangles(group), plot.zones(zones, top, 1_800));
+    let stations: Vec<&Element> = all.inside(group).filter(|element| element.get("class") == "zone").collect();
+    assert!(stations.iter().all(|station| station.number("y") == labels));
+    assert_eq!(stations.into_iter().map(Element::label).collect::<Vec<_>>(), plot.zone_labels(zones));
+    let plural = if zones.len() == 1 { "" } else { "s" };
+    let tally = format!("{} zone{plural}", zones.len());
+    assert!(all.inside(group).any(|element| element.text == tally), "{tally}");
 }
 
 /// The grid's lines and their numbers: first those of the stations, then those of the heights.
@@ -133,7 +142,7 @@ fn compare_axes(plot: &Plot, all: &Elements) {
 
     let [frame] = all.with("class", "frame").collect::<Vec<_>>()[..] else { panic!("one frame") };
     assert_eq!(["x", "y", "width", "height"].map(|name| frame.number(name)), [LEFT, TOP, WIDTH, HEIGHT]);
-    let upright = |&(x, _): &(i64, i64)| vec![x, TOP, TOP + HEIGHT, x, 66_800, 88_600];
+    let upright = |&(x, _): &(i64, i64)| vec![x, TOP, TOP + HEIGHT, x, 66_800, all.height() - 1_400];
     let across = |&(y, ..): &(i64, i64, usize)| vec![LEFT, y, LEFT + WIDTH];
     let lines: Vec<_> = stations.iter().map(upright).chain(heights.iter().map(across)).collect();
     assert_eq!(all.with("class", "grid").map(|line| line.path().1).collect::<Vec<_>>(), lines);
@@ -150,11 +159,12 @@ fn metres(text: &str) -> (i64, usize) {
     (if size == text { units } else { -units }, decimals.len())
 }
 
-/// The curves' shapes behind the three of the key, and their numbers.
-fn compare_curves(road: &Road, drawn: &Drawn, plot: &Plot, all: &Elements) {
-    assert_eq!(all.outlines()[3..], plot.curves(road, &drawn.heights), "{road:?}");
-    let numbers = all.with("y", "11500").map(Element::label);
-    assert_eq!(numbers.collect::<Vec<_>>(), plot.curve_numbers(road));
+/// The numbers above the curves, that of a changed one among them.
+fn compare_curve_numbers(road: &Road, changed: Option<usize>, plot: &Plot, all: &Elements) {
+    let numbers: Vec<_> = all.with("y", "11500").map(Element::label).collect();
+    assert_eq!(numbers, plot.curve_numbers(road, changed));
+    let has = |place: usize| numbers.iter().any(|(_, number)| *number == place.to_string());
+    assert!(changed.is_none_or(has), "{changed:?} of {road:?}");
 }
 
 // ---- roads

@@ -17,7 +17,7 @@ const EDGE: i64 = 500;
 const DIGIT: i64 = 64;
 const BOLD_DIGIT: i64 = 70;
 pub const LETTER: i64 = 53;
-const BOLD_LETTER: i64 = 60;
+pub const BOLD_LETTER: i64 = 60;
 
 const PURPOSES: [&str; 6] = ["stop", "A", "B", "C", "D", "E"];
 

@@ -49,7 +49,18 @@ fn drawn(stations: &[i64], room: i64) -> Vec<usize> {
 
 impl Plot {
     pub fn of(heights: &[i32]) -> Plot {
-        let length = heights.len() as i64 - 1;
+        Plot::with_range(heights.len(), heights)
+    }
+
+    /// The plot of two profiles of one road.
+    pub fn of_both(before: &[i32], after: &[i32]) -> Plot {
+        assert_eq!(before.len(), after.len());
+        Plot::with_range(before.len(), &[before, after].concat())
+    }
+
+    /// The plot of so many stations that has room for these heights.
+    fn with_range(stations: usize, heights: &[i32]) -> Plot {
+        let length = stations as i64 - 1;
         let low = i64::from(*heights.iter().min().expect("a road has stations"));
         let high = i64::from(*heights.iter().max().expect("a road has stations"));
         let exaggeration = exaggeration(length, high - low);
@@ -114,35 +125,50 @@ impl Plot {
     }
 
     /// What is drawn of the curves that change the grade: a line to the road at the PVI, and the curve's shape. A crest bulges
-    /// up, a sag down.
-    pub fn curves(&self, road: &Road, heights: &[i32]) -> Vec<Outline> {
+    /// up, a sag down. The curve at the place of a change has its own class, and over it lies its shape as it is.
+    pub fn curves(&self, road: &Road, heights: &[i32], old: Option<(usize, &Curve)>) -> Vec<Outline> {
         let mut outlines = Vec::new();
         let mut grade = road.first_grade;
-        for curve in &road.curves {
+        for (place, curve) in road.curves.iter().enumerate() {
             if curve.grade_out != grade {
                 let (x, height) = (self.across(2 * i64::from(curve.pvi)), heights[curve.pvi as usize]);
                 outlines.push(Outline::new("pvi", "MV", &[(x, 13_200), (x, self.y(height.into()))]));
-                outlines.push(self.shape(curve, grade));
+                let crest = curve.grade_out < grade;
+                let class = if crest { "crest" } else { "sag" };
+                match old.filter(|&(changed, _)| changed == place) {
+                    None => outlines.push(self.shape(class, curve, crest)),
+                    Some((_, old)) => {
+                        outlines.push(self.shape(&format!("{class} changed"), curve, crest));
+                        outlines.push(self.shape("old", old, crest));
+                    }
+                }
             }
             grade = curve.grade_out;
         }
         outlines
     }
 
-    fn shape(&self, curve: &Curve, grade_in: i16) -> Outline {
+    fn shape(&self, class: &str, curve: &Curve, crest: bool) -> Outline {
         let [begin, pvi, end] = [curve.begin(), curve.pvi.into(), curve.end()].map(|station| self.across(2 * station));
-        match (curve.length, curve.grade_out < grade_in) {
-            (0, true) => Outline::new("crest", "MLLZ", &[(pvi - 550, 13_000), (pvi, 12_000), (pvi + 550, 13_000)]),
-            (0, false) => Outline::new("sag", "MLLZ", &[(pvi - 550, 12_000), (pvi, 13_000), (pvi + 550, 12_000)]),
-            (_, true) => Outline::new("crest", "MQZ", &[(begin, 13_000), (pvi, 11_000), (end, 13_000)]),
-            (_, false) => Outline::new("sag", "MQZ", &[(begin, 12_000), (pvi, 14_000), (end, 12_000)]),
-        }
+        let (commands, points) = match (curve.length, crest) {
+            (0, true) => ("MLLZ", [(pvi - 550, 13_000), (pvi, 12_000), (pvi + 550, 13_000)]),
+            (0, false) => ("MLLZ", [(pvi - 550, 12_000), (pvi, 13_000), (pvi + 550, 12_000)]),
+            (_, true) => ("MQZ", [(begin, 13_000), (pvi, 11_000), (end, 13_000)]),
+            (_, false) => ("MQZ", [(begin, 12_000), (pvi, 14_000), (end, 12_000)]),
+        };
+        Outline::new(class, commands, &points)
     }
 
-    /// The numbers above the curves, from 1 on. From one to the next it is a 64th of the road or more.
-    pub fn curve_numbers(&self, road: &Road) -> Vec<(i64, String)> {
-        let stations: Vec<i64> = road.curves.iter().map(|curve| curve.pvi.into()).collect();
-        let number = |place: usize| (self.across(2 * stations[place]), (place + 1).to_string());
-        drawn(&stations, self.length / 64).into_iter().map(number).collect()
+    /// The numbers above the curves, from 0 on. From one to the next it is a 64th of the road or more, and so from that of a
+    /// changed curve, which is always there, to the others.
+    pub fn curve_numbers(&self, road: &Road, changed: Option<usize>) -> Vec<(i64, String)> {
+        let room = self.length / 64;
+        let station = |place: usize| i64::from(road.curves[place].pvi);
+        let too_near = |place: usize, own: usize| own != place && (station(place) - station(own)).abs() < room;
+        let places = 0..road.curves.len();
+        let places: Vec<usize> = places.filter(|&place| !changed.is_some_and(|own| too_near(place, own))).collect();
+        let stations: Vec<i64> = places.iter().map(|&place| station(place)).collect();
+        let number = |label: usize| (self.across(2 * stations[label]), places[label].to_string());
+        drawn(&stations, room).into_iter().map(number).collect()
     }
 }
