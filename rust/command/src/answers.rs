@@ -4,15 +4,15 @@ use std::io::{self, IsTerminal};
 use std::path::Path;
 
 use exports::{Manoeuvre, Refusal, EYE_HEIGHT, GREATEST_LISTING, OBJECT_HEIGHT};
-use picture::{Curve, Profile};
 use roadtext::Fault;
 
 use crate::arguments::{Given, ACCELERATION, GRADE, HEIGHT, TENTHS, WHOLE};
+use crate::drawing::Drawing;
 use crate::judgement::{Judgement, Passing};
 use crate::output::{self, Output};
 use crate::survey::Survey;
 use crate::trouble::{shown, Trouble, ANSWERED};
-use crate::{complain, input, purpose, report, tables};
+use crate::{complain, input, purpose, report};
 
 /// So many faults of a text are said at most.
 const MOST_FAULTS: usize = 20;
@@ -47,16 +47,21 @@ fn for_each_file(
     Ok(status)
 }
 
-/// Writes the one answer of a command, into the file that `-o` names or to standard output.
-pub fn write_answer(given: &Given, output: &mut Output, bytes: &[u8]) -> Result<u8, Trouble> {
+/// The file that `-o` names, which must not be what the answer is made from; none where it names standard output.
+pub fn file_to_write(given: &Given) -> Result<Option<&Path>, Trouble> {
     match given.output_file() {
         Some(path) if given.files().any(|file| output::is_input(path, file)) => {
-            return Err(Trouble::failed(format!("{}: it would replace what it is made from", shown(path))));
+            Err(Trouble::failed(format!("{}: it would replace what it is made from", shown(path))))
         }
-        Some(path) if !output::is_standard(path) => {
-            output::write_file(path, bytes).map_err(|error| Trouble::with_file(path, &error))?;
-        }
-        _ => output.write(bytes)?,
+        path => Ok(path.filter(|path| !output::is_standard(path))),
+    }
+}
+
+/// Writes the one answer of a command, into the file that `-o` names or to standard output.
+pub fn write_answer(given: &Given, output: &mut Output, bytes: &[u8]) -> Result<u8, Trouble> {
+    match file_to_write(given)? {
+        Some(path) => output::write_file(path, bytes).map_err(|error| Trouble::with_file(path, &error))?,
+        None => output.write(bytes)?,
     }
     Ok(ANSWERED)
 }
@@ -109,29 +114,9 @@ pub fn passing(given: &Given, output: &mut Output) -> Result<u8, Trouble> {
 
 /// The picture of a road file, with rows for passing where a passing distance is given.
 fn picture_of(file: &[u8], distance: Option<u32>) -> Result<String, Refusal> {
-    let road = roadtext::road_numbers(file)?;
     let judgement = Judgement::of_road(file)?;
     let passing = distance.map(|distance| Passing::of_road(file, distance)).transpose()?;
-    let curve = |&[pvi, length, grade_out]: &[i64; 3]| Curve {
-        pvi: pvi as u32,
-        length: length as u32,
-        grade_out: grade_out as i32,
-    };
-    let [.., first_grade] = road.head;
-    Ok(picture::svg(&Profile {
-        speed: judgement.speed,
-        purpose: judgement.purpose,
-        grade: judgement.grade,
-        stopping: judgement.stopping,
-        decision: judgement.decision,
-        first_grade: first_grade as i32,
-        curves: &road.curves.iter().map(curve).collect::<Vec<_>>(),
-        heights: &tables::heights_of(file)?,
-        zones: &judgement.zones,
-        passing: passing
-            .as_ref()
-            .map(|Passing { distance, zones, .. }| picture::Passing { distance: *distance, zones }),
-    }))
+    Ok(picture::svg(&Drawing::of_road(file, &judgement)?.profile(passing.as_ref())))
 }
 
 /// `vcp plot`.

@@ -3,6 +3,7 @@
 use crate::answers;
 use crate::arguments::{Choice, Given};
 use crate::output::Output;
+use crate::preview;
 use crate::sheet;
 use crate::tables;
 use crate::trouble::Trouble;
@@ -70,7 +71,7 @@ const SPEED: Choice = needed("--speed", "KMH", "the speed in km/h");
 const SIGHT: Choice = choice("--sight", "M", "the sight distance (the stopping distance)");
 const GRADE: Choice = choice("--grade", "PERCENT", "the road's grade, uphill positive, as -6.00 (0.00)");
 
-pub const COMMANDS: [Command; 14] = [
+pub const COMMANDS: [Command; 15] = [
     Command {
         name: "list",
         prints: "the listing of road files, for programs",
@@ -141,11 +142,35 @@ the road is taken as level: give the grade that 'vcp report' names for it.",
         details: "\
 The heights are stretched; the picture says how many times. The stopping and
 the decision distance are those on the least of the road's grades, or 0 if none
-is negative. Where a passing distance is given there are two rows more: where
-passing sight is lacking, and where passing is not judged.",
+is negative. Above the curves stand their places, counted from 0, where there is
+room. Where a passing distance is given there are two rows more: where passing
+sight is lacking, and where passing is not judged.",
         operands: ONE_FILE,
         options: &[choice("--passing", "M", "the passing distance ('vcp passing-distance')"), OUTPUT],
         run: answers::plot,
+    },
+    Command {
+        name: "preview",
+        prints: "what another length of a curve would do",
+        details: "\
+For each letter of 'vcp list' it prints the zones of the road as it is and of
+the road with the new length, side by side; where the letter gains stations,
+which have it after the change and not before, and where it loses some; and how
+many stations that is. The last line says at how many stations the two roads
+differ. With --svg it is a picture instead, on standard output (> OUT.svg): both
+profiles, and for each letter a row of zones before and one after. Curves are
+counted from 0, in the order of 'vcp text': these are the numbers above the
+curves in the picture of 'vcp plot'. The road itself is not touched: no file is
+written unless -o names one for the changed road, and that may be neither FILE
+nor -. A refusal of the changed road names it as 'FILE with curve ...'.",
+        operands: ONE_FILE,
+        options: &[
+            needed("--curve", "K", "the curve's place, counted from 0"),
+            needed("--length", "M", "its new length in m"),
+            flag("--svg", "the picture, as SVG"),
+            choice("-o", "OUT", "the file to write the changed road to (none)"),
+        ],
+        run: preview::preview,
     },
     Command {
         name: "passing",

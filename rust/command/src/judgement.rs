@@ -5,7 +5,7 @@ use exports::{Refusal, GREATEST_LISTING, MARKED_STATIONS, MOST_ENDS, PASSING_LAC
 use crate::{purpose, tables};
 
 /// The letters of the zones, in the order of their bits.
-const LETTERS: [u8; 5] = *b"SDRsd";
+pub const LETTERS: [u8; 5] = *b"SDRsd";
 
 /// The first and last stations of zones, ascending.
 pub type Ends = Vec<[u16; 2]>;
@@ -18,6 +18,15 @@ fn zones_of(marks: &[u8], bit: u32) -> Result<Ends, Refusal> {
     let mut ends = [0; MOST_ENDS];
     let many = exports::zones(marks, bit, &mut ends)? as usize;
     Ok(ends[..2 * many].chunks_exact(2).map(|pair| [pair[0], pair[1]]).collect())
+}
+
+/// The zones of each letter of marks.
+fn zones_by_letter(marks: &[u8]) -> Result<Zones, Refusal> {
+    let mut zones = Zones::default();
+    for (bit, zones) in (0..).zip(&mut zones) {
+        *zones = zones_of(marks, bit)?;
+    }
+    Ok(zones)
 }
 
 /// Where a road lacks passing sight over a distance, and where passing is not judged.
@@ -74,15 +83,64 @@ impl Judgement {
     /// That of heights, one a metre.
     pub fn of_heights(speed: u32, purpose: u32, grade: i32, heights: &[i32]) -> Result<Judgement, Refusal> {
         let mut marks = vec![0; heights.len()];
-        let stations = exports::marks(speed, purpose, grade, heights, &mut marks)?;
+        exports::marks(speed, purpose, grade, heights, &mut marks)?;
+        Judgement::of_marks(speed, purpose, grade, &marks)
+    }
+
+    /// That of marks, one a metre, which were made for a speed and a purpose by the distances on a grade.
+    fn of_marks(speed: u32, purpose: u32, grade: i32, marks: &[u8]) -> Result<Judgement, Refusal> {
         let stopping = vcp::required_distance(speed, purpose::STOPPING, grade)?;
         let decision = vcp::required_distance(speed, purpose, grade)?;
-        let mut zones = Zones::default();
-        for (bit, zones) in (0..).zip(&mut zones) {
-            *zones = zones_of(&marks, bit)?;
-        }
-        Ok(Judgement { speed, purpose, grade, stopping, decision, stations, zones })
+        let zones = zones_by_letter(marks)?;
+        Ok(Judgement { speed, purpose, grade, stopping, decision, stations: marks.len() as u32, zones })
     }
+
+    /// That of a road file, from its marks.
+    fn of_marked_road(file: &[u8], marks: &[u8]) -> Result<Judgement, Refusal> {
+        let [speed, purpose, ..] = roadtext::road_numbers(file)?.head;
+        Judgement::of_marks(speed as u32, purpose as u32, exports::file_grade(file)?, marks)
+    }
+}
+
+/// What another length of a curve does.
+pub struct Preview {
+    /// The road as it is.
+    pub before: Judgement,
+    /// The changed road.
+    pub after: Judgement,
+    /// The zones of the stations that have a letter after the change and not before it.
+    pub gained: Zones,
+    /// The zones of the stations that have a letter before the change and not after it.
+    pub lost: Zones,
+    /// The number of stations whose marks differ.
+    pub differing: u32,
+    /// The file of the changed road.
+    pub changed: Vec<u8>,
+}
+
+impl Preview {
+    /// That of a road file and another length in metres of the curve at a place, counted from 0.
+    pub fn of_road(file: &[u8], place: u32, length: u32) -> Result<Preview, Refusal> {
+        let [mut before, mut after] = [[0; MARKED_STATIONS]; 2];
+        let differing = exports::preview(file, place, length, &mut before, &mut after)?;
+        let mut changed = vec![0; file.len()];
+        exports::change_length(file, place, length, &mut changed)?;
+        let stations = tables::heights_of(file)?.len();
+        let (before, after) = (&before[..stations], &after[..stations]);
+        Ok(Preview {
+            before: Judgement::of_marked_road(file, before)?,
+            after: Judgement::of_marked_road(&changed, after)?,
+            gained: zones_by_letter(&without(after, before))?,
+            lost: zones_by_letter(&without(before, after))?,
+            differing,
+            changed,
+        })
+    }
+}
+
+/// The bits of marks that other marks do not have.
+fn without(marks: &[u8], others: &[u8]) -> Vec<u8> {
+    marks.iter().zip(others).map(|(mark, other)| mark & !other).collect()
 }
 
 /// The numbers behind the first word of a line of a listing.

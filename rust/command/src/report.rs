@@ -7,7 +7,7 @@ use crate::columns::{lined_up, Row};
 use crate::judgement::{Ends, Judgement, Passing};
 use crate::purpose;
 
-fn row<const MANY: usize>(items: [&str; MANY]) -> Row {
+pub fn row<const MANY: usize>(items: [&str; MANY]) -> Row {
     items.map(str::to_string).to_vec()
 }
 
@@ -17,7 +17,7 @@ fn sums_header(stations: u32) -> Row {
 }
 
 /// How many stations zones have.
-fn stations_in(zones: &Ends) -> u32 {
+pub fn stations_in(zones: &Ends) -> u32 {
     zones.iter().map(|&[first, last]| u32::from(last - first) + 1).sum()
 }
 
@@ -41,15 +41,23 @@ fn sum(name: &str, distance: u32, stations: u32, [lacking, not_judged]: [&Ends; 
     vec![name.to_string(), format!("{distance} m"), judged_word, lacking_word, share(lacking, judged), not_judged_word]
 }
 
+/// What is said where there is no zone.
+pub const NOWHERE: &str = "nowhere";
+
+/// What is said of a zone: its first and its last station, and its length.
+pub fn zone([first, last]: [u16; 2], first_station: u32) -> [String; 3] {
+    let [from, to] = [first, last].map(|station| (first_station + u32::from(station)).to_string());
+    [from, to, format!("{} m", last - first + 1)]
+}
+
 /// The rows of the zones of one meaning.
-fn zone_rows(meaning: &str, zones: &Ends, first_station: u32) -> Vec<Row> {
-    let name = meaning.to_string();
+pub fn zone_rows(meaning: &str, zones: &Ends, first_station: u32) -> Vec<Row> {
     if zones.is_empty() {
-        return vec![vec![name, "nowhere".to_string()]];
+        return vec![row([meaning, NOWHERE])];
     }
-    let rows = zones.iter().map(|&[first, last]| {
-        let [from, to] = [first, last].map(|station| (first_station + u32::from(station)).to_string());
-        vec![name.clone(), from, to, format!("{} m", last - first + 1)]
+    let rows = zones.iter().map(|&ends| {
+        let [from, to, length] = zone(ends, first_station);
+        vec![meaning.to_string(), from, to, length]
     });
     rows.collect()
 }
@@ -66,19 +74,25 @@ fn stretch(first_station: u32, stations: u32) -> String {
     format!("from station {first_station} to {} (rising)", first_station + (stations - 1))
 }
 
+/// The words for what is judged, from its first station on.
+pub fn subject(judgement: &Judgement, first_station: u32) -> String {
+    let Judgement { speed, purpose, grade, stations, .. } = *judgement;
+    let (purpose, grade) = (purpose::name(purpose), decimal::write(grade.into(), 2, 2));
+    format!("{speed} km/h, {purpose}, marked with grade {grade} %, {}", stretch(first_station, stations))
+}
+
 /// The report of what is judged under this name, from its first station on.
 pub fn report(name: &str, judgement: &Judgement, first_station: u32) -> String {
-    let Judgement { speed, purpose, grade, stopping, decision, stations, ref zones } = *judgement;
+    let Judgement { stopping, decision, stations, ref zones, .. } = *judgement;
     let [stopping_lacking, decision_lacking, _, stopping_not_judged, decision_not_judged] = zones;
     let sums = [
         sums_header(stations),
         sum("stopping sight", stopping, stations, [stopping_lacking, stopping_not_judged]),
         sum("decision sight", decision, stations, [decision_lacking, decision_not_judged]),
     ];
-    let (purpose, grade) = (purpose::name(purpose), decimal::write(grade.into(), 2, 2));
     format!(
-        "{name}: {speed} km/h, {purpose}, marked with grade {grade} %, {}\n\n{}\n{}",
-        stretch(first_station, stations),
+        "{name}: {}\n\n{}\n{}",
+        subject(judgement, first_station),
         lined_up(&sums),
         zone_table(&MEANINGS, zones, first_station)
     )

@@ -21,12 +21,13 @@ use sight_tests::roads::{self, EXAMPLE, SHARP_BREAK, SHARP_BREAK_REASON};
 const FILE: &str = "FILE";
 
 /// The commands that read a road file.
-const OF_ROADS: [&[&str]; 7] = [
+const OF_ROADS: [&[&str]; 8] = [
     &["list", FILE],
     &["report", FILE],
     &["heights", FILE],
     &["sight", FILE],
     &["plot", FILE],
+    &["preview", FILE, "--curve", "0", "--length", "20"],
     &["passing", FILE, "320"],
     &["text", FILE],
 ];
@@ -44,13 +45,14 @@ const NUMBERS: [&[&str]; 5] = [
     &["sag", "--speed", "80", "--rise", "6.00"],
 ];
 
-const NAMES: [&str; 14] = [
+const NAMES: [&str; 15] = [
     "list",
     "report",
     "heights",
     "sight",
     "check",
     "plot",
+    "preview",
     "passing",
     "road",
     "text",
@@ -109,12 +111,16 @@ fn shipped_roads() {
             let (from_standard, its_bytes) = run_with(&folder, &standard.collect::<Vec<_>>(), &input);
             let named = ended.output.replacen(&format!("{file}: "), "-: ", 1);
             assert_eq!((from_standard.output, from_standard.status), (named, 0), "{arguments:?}");
-            assert!(bytes == its_bytes || ["report", "check", "passing"].contains(&arguments[0]), "{arguments:?}");
+            let named = ["report", "check", "preview", "passing"].contains(&arguments[0]);
+            assert!(bytes == its_bytes || named, "{arguments:?}");
         }
     }
     for name in ["example.vcp", "level.vcp", "three-crests.vcp"] {
         for command in OF_ROADS {
-            assert_eq!(run(&root().join("roads"), &on(command, name)).status, 0, "{command:?} {name}");
+            // The level road has no curve whose length could be another.
+            let refused = command[0] == "preview" && name == "level.vcp";
+            let ended = run(&root().join("roads"), &on(command, name));
+            assert_eq!(ended.status, i32::from(refused), "{command:?} {name}");
         }
     }
 }
@@ -375,6 +381,15 @@ fn help_is_true() {
     }
     let rows = "two rows more: where passing sight is lacking, and where passing is not judged.";
     assert!(words("plot").contains(rows) && words("passing").contains("a driver towards rising stations"));
+    assert!(words("plot").contains("Above the curves stand their places, counted from 0, where there is room."));
+    assert!(row("preview", "--curve").ends_with("the curve's place, counted from 0"));
+    for part in [
+        "Curves are counted from 0, in the order of 'vcp text': these are the numbers above the curves in the picture of 'vcp plot'.",
+        "no file is written unless -o names one for the changed road, and that may be neither FILE nor -.",
+        "A refusal of the changed road names it as 'FILE with curve ...'.",
+    ] {
+        assert!(words("preview").contains(part), "{part}");
+    }
     let height = format!("eye and object being {} m high", roadtext::decimal::write(exports::EYE_HEIGHT.into(), 4, 2));
     assert!(words("passing").contains(&height) && exports::EYE_HEIGHT == exports::PASSING_OBJECT_HEIGHT);
     let letters = ["S  stopping sight is lacking", "D  decision sight is lacking", "s  stopping is not judged"];
@@ -397,7 +412,7 @@ fn help_is_true() {
 fn unknown_commands() {
     let folder = folder("habits_unknown");
     let names =
-        "commands: list, report, heights, sight, check, plot, passing, road, text, distance, passing-distance, sheet, \
+        "commands: list, report, heights, sight, check, plot, preview, passing, road, text, distance, passing-distance, sheet, \
          crest, sag; see vcp --help\n";
     expect_error(&folder, &[], 2, &format!("vcp: a command is missing\n{names}"));
     for word in ["lists", "LIST", "--list", "", "-"] {
@@ -417,7 +432,7 @@ fn wrong_arguments() {
             let more = [&on(command, "a")[..], &["b"]].concat();
             common::expect_wrong(&folder, &more, "\"b\" is one argument too many");
         }
-        if ["heights", "sight", "plot", "text"].contains(&command[0]) {
+        if ["heights", "sight", "plot", "preview", "text"].contains(&command[0]) {
             common::expect_wrong(&folder, &[command[0], "a", "-o"], "-o needs OUT");
         }
     }
