@@ -201,6 +201,30 @@ pub fn any_road(random: &mut Random) -> Road {
     }
 }
 
+/// The grade that leads into the curve at a place.
+pub fn grade_in(road: &Road, place: usize) -> i16 {
+    match place {
+        0 => road.first_grade,
+        _ => road.curves[place - 1].grade_out,
+    }
+}
+
+/// Where the curve before a place ends, or the road begins.
+pub fn end_before(road: &Road, place: usize) -> i64 {
+    match place {
+        0 => 0,
+        _ => road.curves[place - 1].end(),
+    }
+}
+
+/// The longest length for which the curve at a place of an accepted road has room: with it the curve touches a neighbour,
+/// reaches an end of the road, or is as long as a curve can be.
+pub fn longest_length(road: &Road, place: usize) -> u32 {
+    let pvi = i64::from(road.curves[place].pvi);
+    let begin_behind = road.curves.get(place + 1).map_or(i64::from(road.length), Curve::begin);
+    2 * (pvi - end_before(road, place)).min(begin_behind - pvi).min(1_000) as u32
+}
+
 /// A grade out that differs from a grade in by more than a plain break may, as often by one unit as by more.
 fn sharp_turn(random: &mut Random, grade_in: i16) -> i16 {
     // Up where there is room upwards alone, and half the times where there is room both ways.
@@ -237,12 +261,11 @@ pub fn spoil_road(random: &mut Random, road: &mut Road, refusal: u32) -> bool {
                 12 if half > 0 && random.once_in(2) => road.curves[place].pvi = random.one_of(&[0, half - 1]),
                 12 => road.curves[place].pvi = random.one_of(&[road.length - half + 1, 8_001, 65_535]),
                 25 => {
-                    let grade_in = if place == 0 { road.first_grade } else { road.curves[place - 1].grade_out };
-                    let grade_out = sharp_turn(random, grade_in);
+                    let grade_out = sharp_turn(random, grade_in(road, place));
                     road.curves[place] = Curve { length: 0, grade_out, ..curve };
                 }
                 _ => {
-                    let end_before = if place == 0 { 0 } else { road.curves[place - 1].end() as u32 };
+                    let end_before = end_before(road, place) as u32;
                     if end_before == 0 {
                         return false;
                     }
@@ -326,6 +349,21 @@ pub fn noise(random: &mut Random) -> Vec<u8> {
         _ => file[15] = curves as u8,
     }
     file
+}
+
+/// A file with one fault or with several, or noise. Now and then it is good all the same.
+pub fn doubtful_file(random: &mut Random) -> Vec<u8> {
+    match random.within(0..=2) {
+        0 => {
+            let refusal = random.one_of(&REFUSALS);
+            faulty_file(random, &[refusal])
+        }
+        1 => {
+            let refusals: Vec<u32> = (0..random.within(2..=5)).map(|_| random.one_of(&REFUSALS)).collect();
+            faulty_file(random, &refusals)
+        }
+        _ => noise(random),
+    }
 }
 
 /// A run of three short crests, each touching the one before, at 90 km/h: the third hides the road that the first two leave in

@@ -154,18 +154,8 @@ fn refused_files() {
     let mut random = Random::new(33);
     let mut tally = Tally::default();
     for _ in 0..75_000 {
-        let file = match random.within(0..=2) {
-            0 => {
-                let refusal = random.one_of(&REFUSALS);
-                roads::faulty_file(&mut random, &[refusal])
-            }
-            1 => {
-                let refusals: Vec<u32> = (0..random.within(2..=5)).map(|_| random.one_of(&REFUSALS)).collect();
-                roads::faulty_file(&mut random, &refusals)
-            }
-            _ => roads::noise(&mut random),
-        };
-        // Now and then the faults or the noise make a good road: it is left to the other tests.
+        let file = roads::doubtful_file(&mut random);
+        // A good one is left to the other tests.
         let Err(refusal) = read(&file) else { continue };
         let places = random.one_of(&[0, 1, 300, 9_000]);
         let (answer, _) = compare(&mut random, &file, places);

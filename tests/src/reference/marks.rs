@@ -2,7 +2,7 @@
 
 use super::distances::required_distance;
 use super::file::read;
-use super::road::{marking_grade, stored_height};
+use super::road::{marking_grade, stored_height, Road};
 use super::sight::{available_sight, fill, list_verdict, Look};
 use super::Answer;
 
@@ -58,10 +58,14 @@ pub fn marks(speed: u32, purpose: u32, grade: i32, heights: &[i32], list: &mut [
     fill(heights, list, |heights, i| mark(heights, i, stopping, decision))
 }
 
+/// Marks an accepted road.
+pub(super) fn mark_road(road: &Road, list: &mut [u8]) -> Answer {
+    let heights: Vec<i32> = (0..=road.length).map(|station| stored_height(road, station)).collect();
+    marks(road.speed.into(), road.purpose.into(), marking_grade(road), &heights, list)
+}
+
 pub fn mark_road_file(file: &[u8], list: &mut [u8]) -> Answer {
-    let road = read(file)?;
-    let heights: Vec<i32> = (0..=road.length).map(|station| stored_height(&road, station)).collect();
-    marks(road.speed.into(), road.purpose.into(), marking_grade(&road), &heights, list)
+    mark_road(&read(file)?, list)
 }
 
 /// All longest runs of stations with this bit, ascending, each as its first and last station.

@@ -9,6 +9,7 @@ pub mod lengths;
 pub mod listing;
 pub mod marks;
 pub mod passing;
+pub mod preview;
 pub mod road;
 pub mod sag;
 pub mod sight;
