@@ -317,6 +317,21 @@ fn longest_roads() {
     met.expect_stations(30, 1);
 }
 
+/// The crest of 2 m among the rules' cases: at how many of 41 stations the marks differ, and what is refused.
+#[test]
+fn cases_of_the_rules() {
+    let mut random = Random::new(108);
+    let file = bytes(&Road { length: 40, ..road(900, &[curve(20, 2, -900)]) });
+    for (length, differing) in [(10, 4), (20, 12), (2, 0)] {
+        let (answer, _) = compare_accepted(&mut random, &file, Trial { place: 0, length });
+        assert_eq!(answer, Ok(differing), "length {length}");
+    }
+    for (place, places, refusal) in [(0, [41, 40], 14), (0, [40, 41], 14), (1, [40, 40], 26)] {
+        let (answer, _) = compare(&mut random, &file, Trial { place, length: 10 }, places);
+        assert_eq!(answer, Err(refusal), "place {place}, {places:?} places");
+    }
+}
+
 /// The numbers of each curve of the example: its least length, the greatest with which it touches a neighbour, and the greatest
 /// within the road.
 const EXAMPLE_LENGTHS: [[u32; 3]; 4] = [[2, 50, 200], [2, 50, 260], [2, 50, 280], [0, 70, 200]];

@@ -14,12 +14,12 @@ use Rattle.sight.specs.Operations.{sightAnswer}
 use Rattle.road_distances.specs.RoadDistances.{leastGrade, roadDistances}
 use Rattle.marks.specs.Marks.{markOf}
 use Rattle.change.specs.Change.{withLength, changeVerdict}
-use Rattle.preview.specs.Preview.{differing, previewVerdict, previewAnswer}
+use Rattle.preview.specs.Preview.{differing, previewVerdict, previewAnswer, previewFirst, previewSecond}
 use Rattle.passing.specs.Passing.{passingMark, passingAnswer, passingList}
-use Rattle.cases.specs.Cases.{StarredCases, curve, roadFor, roadOf, crestRoad, breaksRoad, heightAt, crestAndSag, triedWith, leastAdequate, manoeuvre, passingOver}
+use Rattle.cases.specs.Cases.{StarredCases, curve, roadFor, roadOf, crestRoad, breaksRoad, heightAt, crestAndSag, shortCrest, leastAdequate, manoeuvre, passingOver}
 
 pub starred-cases : StarredCases
-unfolding requiredDistance metresFor levelMetres gradedMetres levelParts gradedParts upToFive passingDistance passingParts initialParts leftLaneParts oncomingParts manoeuvreOutside manoeuvre crestLength sagLength lengthVerdict leastAdequate leastEven longEnough reachesMinimum adequate withinRoot roadVerdict numbersVerdict curvesVerdict curveVerdict heightAt ownHeights heightsList heightsAnswer filled storedHeight exactHeight exactFrom floorDiv breaksRoad crestAndSag crestRoad roadOf roadFor curve changeVerdict withLength triedWith previewAnswer previewVerdict differing roadDistances leastGrade distancesFor markOf sightVerdict lookVerdict sightAnswer availableSight sightFrom reach seen everyBetween every clears passingOver passingList passingAnswer passingVerdict passingMark
+unfolding requiredDistance metresFor levelMetres gradedMetres levelParts gradedParts upToFive passingDistance passingParts initialParts leftLaneParts oncomingParts manoeuvreOutside manoeuvre crestLength sagLength lengthVerdict leastAdequate leastEven longEnough reachesMinimum adequate withinRoot roadVerdict numbersVerdict curvesVerdict curveVerdict heightAt ownHeights heightsList heightsAnswer filled storedHeight exactHeight exactFrom floorDiv breaksRoad crestAndSag crestRoad roadOf roadFor curve changeVerdict withLength shortCrest previewAnswer previewFirst previewSecond previewVerdict differing roadDistances leastGrade distancesFor markOf sightVerdict lookVerdict sightAnswer availableSight sightFrom reach seen everyBetween every clears passingOver passingList passingAnswer passingVerdict passingMark
 starred-cases = record {
   distances = (refl, refl, refl, refl, refl, refl);
   passing = (refl, refl, refl, refl);
@@ -29,7 +29,7 @@ starred-cases = record {
   heights = (refl, refl, refl, refl, refl, refl);
   breaks = (refl, refl, refl, refl, refl);
   changes = (refl, refl, refl, refl, refl, refl, refl, refl);
-  previews = (refl, refl, refl);
+  previews = (refl, refl, refl, refl, refl, refl);
   sights = (refl, refl, refl);
   passing-marks = (refl, refl, refl);
 }

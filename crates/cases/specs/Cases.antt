@@ -6,9 +6,9 @@ use Prim.Native.Nat.{ℕ, _*_, _-_, _/_}
 use lib.IntN.{ℤ, pos, negℤ}
 use lib.ListN.{length, getD, replicate}
 use Rattle.terms.specs.Limits.{stoppingPurpose, greatestCurveCount, eyeHeight, objectHeight}
-use Rattle.terms.specs.Refusals.{curveOrderRefused, sharpBreakRefused, noCurveRefused}
+use Rattle.terms.specs.Refusals.{curveOrderRefused, roomRefused, sharpBreakRefused, noCurveRefused}
 use Rattle.terms.specs.declared.Answer.{Answer}
-use Rattle.terms.specs.declared.Answer.the-variants.{Number}
+use Rattle.terms.specs.declared.Answer.the-variants.{Number, Refused}
 use Rattle.terms.specs.declared.Verdict.the-variants.{Accepted, Fault}
 use Rattle.distance.specs.declared.Manoeuvre.{Manoeuvre}
 use Rattle.distance.specs.Distance.{purposeRow, metreParts, levelParts, requiredDistance}
@@ -20,7 +20,7 @@ use Rattle.road.specs.Road.{noCurve, roadVerdict}
 use Rattle.heights.specs.Heights.{ownHeights}
 use Rattle.sight.specs.Operations.{sightAnswer}
 use Rattle.change.specs.Change.{changeVerdict}
-use Rattle.preview.specs.Preview.{previewAnswer}
+use Rattle.preview.specs.Preview.{previewAnswer, previewFirst, previewSecond}
 use Rattle.passing.specs.Passing.{passingList}
 
 -- a curve by its PVI, its length and its grade out
@@ -59,10 +59,9 @@ breaksRoad g h = roadOf (pos 300) (curve 50 0 (pos g) ∷ curve 50 0 (pos h) ∷
 unfoldable pub crestAndSag : Road
 crestAndSag = roadOf (pos 300) (curve 30 20 (negℤ (pos 300)) ∷ curve 60 20 (pos 300) ∷ [])
 
--- what Preview answers for another length of a crest of 2 m: at 20 km/h, N 40, first grade 900, PVI 20, grade −900, the lists just long enough
-unfoldable pub triedWith : ℕ → Answer
-triedWith l =
-    previewAnswer (roadFor 20 40 (pos 900) (curve 20 2 (negℤ (pos 900)) ∷ [])) 0 l (replicate 41 255) (replicate 41 255)
+-- at 20 km/h, N 40, first grade 900, a crest of 2 m with PVI 20 and grade −900
+unfoldable pub shortCrest : Road
+shortCrest = roadFor 20 40 (pos 900) (curve 20 2 (negℤ (pos 900)) ∷ [])
 
 -- the least even adequate length of a crest with this drop and sight distance, whatever the speed is: e = 10,800 and o = 6,000
 unfoldable pub leastAdequate : ℕ → ℕ → Answer
@@ -128,8 +127,8 @@ pub record StarredCases : Type 0 where
       × (roadVerdict (breaksRoad 351 351) ≡ Fault sharpBreakRefused)
       × (roadVerdict (breaksRoad 250 301) ≡ Fault sharpBreakRefused)
       × (roadVerdict (crestRoad 0) ≡ Fault sharpBreakRefused)
-  -- Trying another length: places beyond the one curve, also with an odd length; no length left; up to the sag, and into it; and a road
-  -- that is refused as it is, at a place beyond its curve, and where the length would mend it
+  -- Trying another length: a longer curve; places beyond the one curve, also with an odd length; no length left; up to the sag, and into
+  -- it; and a road that is refused as it is, at a place beyond its curve, and where the length would mend it
   pub changes :
       (changeVerdict (crestRoad 20) 0 40 ≡ Accepted)
       × (changeVerdict (crestRoad 20) 1 40 ≡ Fault noCurveRefused)
@@ -139,11 +138,15 @@ pub record StarredCases : Type 0 where
       × (changeVerdict crestAndSag 0 42 ≡ Fault curveOrderRefused)
       × (changeVerdict (crestRoad 0) 1 20 ≡ Fault sharpBreakRefused)
       × (changeVerdict (crestRoad 0) 0 20 ≡ Fault sharpBreakRefused)
-  -- Trying another length: at how many stations the marks differ
+  -- Trying another length: at how many of 41 stations the marks differ; a second and a first list of 40 places, and that the other list
+  -- stays; and a place beyond the curve, where both lists are too short
   pub previews :
-      (triedWith 10 ≡ Number 4)
-      × (triedWith 20 ≡ Number 12)
-      × (triedWith 2 ≡ Number 0)
+      (previewAnswer shortCrest 0 10 (replicate 41 255) (replicate 41 255) ≡ Number 4)
+      × (previewAnswer shortCrest 0 10 (replicate 41 255) (replicate 40 255) ≡ Refused roomRefused)
+      × (previewFirst shortCrest 0 10 (replicate 41 255) (replicate 40 255) ≡ replicate 41 255)
+      × (previewAnswer shortCrest 0 10 (replicate 40 255) (replicate 41 255) ≡ Refused roomRefused)
+      × (previewSecond shortCrest 0 10 (replicate 40 255) (replicate 41 255) ≡ replicate 41 255)
+      × (previewAnswer shortCrest 1 10 (replicate 40 255) (replicate 40 255) ≡ Refused noCurveRefused)
   -- What can be seen: from station 0 with farthest 8
   pub sights :
       (sightAnswer (pos 0 ∷ pos 20 ∷ pos 0 ∷ pos 100 ∷ []) 0 10 5 8 ≡ Number 1)
