@@ -17,8 +17,8 @@ pub fn with_length(road: Road, place: u32, length: u16) -> Road
     changed
 }
 
-// Whether a road is accepted, has a curve at the place, and is accepted with that curve's new length. A length that no curve may
-// have is refused before it is narrowed.
+// Whether a road is accepted, has a curve at the place, and is accepted with that curve's new length. A length over 2,000 is refused
+// before it is narrowed.
 pub fn change_verdict(road: Road, place: u32, length: u32) -> Verdict
     ensures { λ r. ⌜ r ≡ changeVerdict road place length ⌝ }
 {

@@ -6,7 +6,7 @@ use Rattle.road.specs.declared.Road.{Road}
 use Rattle.road_distances.specs.RoadDistances.{gradesOf, roadGrade, roadDistances}
 use Rattle.change.specs.Change.{withLength}
 
--- what is said of a road, a place and a length
+-- of a road and the same road with length l at place k
 pub record GradesStay (r : Road) (k l : ℕ) : Type 0 where
   -- the changed road has the same grades in the same order,
   pub grades : gradesOf (withLength r k l) ≡ gradesOf r
