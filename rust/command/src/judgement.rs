@@ -83,22 +83,11 @@ impl Judgement {
     /// That of heights, one a metre.
     pub fn of_heights(speed: u32, purpose: u32, grade: i32, heights: &[i32]) -> Result<Judgement, Refusal> {
         let mut marks = vec![0; heights.len()];
-        exports::marks(speed, purpose, grade, heights, &mut marks)?;
-        Judgement::of_marks(speed, purpose, grade, &marks)
-    }
-
-    /// That of marks, one a metre, which were made for a speed and a purpose by the distances on a grade.
-    fn of_marks(speed: u32, purpose: u32, grade: i32, marks: &[u8]) -> Result<Judgement, Refusal> {
+        let stations = exports::marks(speed, purpose, grade, heights, &mut marks)?;
         let stopping = vcp::required_distance(speed, purpose::STOPPING, grade)?;
         let decision = vcp::required_distance(speed, purpose, grade)?;
-        let zones = zones_by_letter(marks)?;
-        Ok(Judgement { speed, purpose, grade, stopping, decision, stations: marks.len() as u32, zones })
-    }
-
-    /// That of a road file, from its marks.
-    fn of_marked_road(file: &[u8], marks: &[u8]) -> Result<Judgement, Refusal> {
-        let [speed, purpose, ..] = roadtext::road_numbers(file)?.head;
-        Judgement::of_marks(speed as u32, purpose as u32, exports::file_grade(file)?, marks)
+        let zones = zones_by_letter(&marks)?;
+        Ok(Judgement { speed, purpose, grade, stopping, decision, stations, zones })
     }
 }
 
@@ -121,20 +110,15 @@ pub struct Preview {
 impl Preview {
     /// That of a road file and another length in metres of the curve at a place, counted from 0.
     pub fn of_road(file: &[u8], place: u32, length: u32) -> Result<Preview, Refusal> {
-        let [mut before, mut after] = [[0; MARKED_STATIONS]; 2];
-        let differing = exports::preview(file, place, length, &mut before, &mut after)?;
+        let [mut marks, mut changed_marks] = [[0; MARKED_STATIONS]; 2];
+        let differing = exports::preview(file, place, length, &mut marks, &mut changed_marks)?;
         let mut changed = vec![0; file.len()];
         exports::change_length(file, place, length, &mut changed)?;
-        let stations = tables::heights_of(file)?.len();
-        let (before, after) = (&before[..stations], &after[..stations]);
-        Ok(Preview {
-            before: Judgement::of_marked_road(file, before)?,
-            after: Judgement::of_marked_road(&changed, after)?,
-            gained: zones_by_letter(&without(after, before))?,
-            lost: zones_by_letter(&without(before, after))?,
-            differing,
-            changed,
-        })
+        let (before, after) = (Judgement::of_road(file)?, Judgement::of_road(&changed)?);
+        // Behind the last station both lists are 0, so that nothing is gained or lost there.
+        let gained = zones_by_letter(&without(&changed_marks, &marks))?;
+        let lost = zones_by_letter(&without(&marks, &changed_marks))?;
+        Ok(Preview { before, after, gained, lost, differing, changed })
     }
 }
 
