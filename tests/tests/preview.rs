@@ -314,6 +314,7 @@ fn longest_roads() {
             assert_eq!(answer.err(), (!accepted).then_some(refusal), "place {place}, length {length}");
         }
     }
+    try_place(&mut random, &mut met, &single, 0);
     met.expect_stations(30, 1);
 }
 

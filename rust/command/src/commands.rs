@@ -156,13 +156,16 @@ sight is lacking, and where passing is not judged.",
 For each letter of 'vcp list' it prints the zones of the road as it is and of
 the road with the new length, side by side; where the letter gains stations,
 which have it after the change and not before, and where it loses some; and how
-many stations that is. The last line says at how many stations the two roads
-differ. With --svg it is a picture instead, on standard output (> OUT.svg): both
+many stations that is. A \" stands for the zone above it, which reaches into its
+row too. Stations that S or D gains lack sight after the change, and those that
+they lose have it. The last line says at how many stations the two roads differ.
+With --svg it is a picture instead, on standard output (> OUT.svg): both
 profiles, and for each letter a row of zones before and one after. Curves are
 counted from 0, in the order of 'vcp text': these are the numbers above the
 curves in the picture of 'vcp plot'. The road itself is not touched: no file is
 written unless -o names one for the changed road, and that may be neither FILE
-nor -. A refusal of the changed road names it as 'FILE with curve ...'.",
+nor - nor a name in .svg. A refusal of the changed road names it as 'FILE with
+curve ...'.",
         operands: ONE_FILE,
         options: &[
             needed("--curve", "K", "the curve's place, counted from 0"),

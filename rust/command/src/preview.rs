@@ -37,15 +37,30 @@ fn beside(before: &Ends, after: &Ends) -> Vec<Pair> {
     }
 }
 
+/// What stands for the zone above on the same side, where that reaches into this row too.
+const AGAIN: &str = "\"";
+
+/// What a row says of one side, below the last zone above on that side and beside the zone of the other side.
+fn half(own: Option<[u16; 2]>, above: Option<[u16; 2]>, other: Option<[u16; 2]>) -> [String; 3] {
+    match (own, above, other) {
+        (Some(ends), ..) => zone(ends, 0),
+        (None, Some([_, last]), Some([first, _])) if first <= last + 1 => [AGAIN, "", ""].map(str::to_string),
+        _ => Default::default(),
+    }
+}
+
 /// The rows of a letter's zones before and after.
 fn rows_beside(name: &str, before: &Ends, after: &Ends) -> Vec<Row> {
     let mut pairs = beside(before, after);
     if pairs.is_empty() {
         pairs.push([None, None]);
     }
-    let half = |ends: Option<[u16; 2]>| ends.map(|ends| zone(ends, 0)).unwrap_or_default();
-    let line = |pair: Pair| [&[name.to_string()], &pair.map(half).concat()[..]].concat();
-    let mut rows: Vec<Row> = pairs.into_iter().map(line).collect();
+    let (mut above, mut rows): (Pair, Vec<Row>) = ([None, None], Vec::new());
+    for pair in pairs {
+        let halves = [0, 1].map(|side| half(pair[side], above[side], pair[1 - side]));
+        rows.push([&[name.to_string()], &halves.concat()[..]].concat());
+        above = [0, 1].map(|side| pair[side].or(above[side]));
+    }
     for (column, zones) in [(1, before), (4, after)] {
         if zones.is_empty() {
             rows[0][column] = NOWHERE.to_string();
@@ -89,23 +104,14 @@ fn sums(preview: &Preview) -> String {
     lined_up(&rows)
 }
 
-/// How many stations differ.
-fn differing(preview: &Preview) -> String {
-    let stations = preview.before.stations;
-    match preview.differing {
-        1 => format!("1 of {stations} stations differs"),
-        many => format!("{many} of {stations} stations differ"),
-    }
-}
-
 /// The preview in words, under a title.
 fn text(title: &str, preview: &Preview) -> String {
-    let Preview { before, after, .. } = preview;
+    let Preview { before, after, differing, .. } = preview;
     let parts = [
         format!("{title}\n{}\n", subject(before, 0)),
         zones_beside(&before.zones, &after.zones),
         runs(preview),
-        format!("{}\n{}\n", sums(preview), differing(preview)),
+        format!("{}\n{}\n", sums(preview), picture::differing(*differing, before.stations)),
     ];
     parts.join("\n")
 }
@@ -118,10 +124,13 @@ fn picture(file: &[u8], place: u32, preview: &Preview) -> Result<String, Refusal
     Ok(picture::preview(&picture::Preview { before, after, place: place as usize, differing: *differing }))
 }
 
-/// The file that the changed road is written to, where `-o` names one.
+/// The file that the changed road is written to, where `-o` names one: no picture, which whoever knows `vcp plot` may mean.
 fn file_of_changed(given: &Given) -> Result<Option<&Path>, Trouble> {
     match file_to_write(given)? {
         None if given.is_there("-o") => Err(given.wrong("-o needs a file: standard output has the preview")),
+        Some(path) if path.extension().is_some_and(|ending| ending.eq_ignore_ascii_case("svg")) => {
+            Err(given.wrong("-o is for the changed road: standard output has the picture"))
+        }
         file => Ok(file),
     }
 }
@@ -142,6 +151,7 @@ fn print_and_write(output: &mut Output, answer: &str, file: Option<&Path>, chang
 /// `vcp preview`.
 pub fn preview(given: &Given, output: &mut Output) -> Result<u8, Trouble> {
     let place = given.needed("--curve", |text| WHOLE.read(text))?;
+    // A number that 32 bits do not hold is read as the greatest that they hold: what is said of it are its own words.
     let (length, own_words) = given.needed("--length", |text| Ok((WHOLE.read(text)?, text.to_string())))?;
     let file_of_changed = file_of_changed(given)?;
     let (path, name) = (given.file(), shown(given.file()));

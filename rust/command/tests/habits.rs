@@ -385,7 +385,9 @@ fn help_is_true() {
     assert!(row("preview", "--curve").ends_with("the curve's place, counted from 0"));
     for part in [
         "Curves are counted from 0, in the order of 'vcp text': these are the numbers above the curves in the picture of 'vcp plot'.",
-        "no file is written unless -o names one for the changed road, and that may be neither FILE nor -.",
+        "A \" stands for the zone above it, which reaches into its row too.",
+        "Stations that S or D gains lack sight after the change, and those that they lose have it.",
+        "no file is written unless -o names one for the changed road, and that may be neither FILE nor - nor a name in .svg.",
         "A refusal of the changed road names it as 'FILE with curve ...'.",
     ] {
         assert!(words("preview").contains(part), "{part}");

@@ -66,10 +66,22 @@ fn parts(preview: &str) -> (String, [Table; 4], String) {
 }
 
 // ---- the second calculation
-/// What is said of a zone; nothing where there is none.
-fn zone(zone: Option<[u16; 2]>) -> [String; 3] {
-    zone.map(|[first, last]| [first.to_string(), last.to_string(), format!("{} m", last - first + 1)])
-        .unwrap_or_default()
+/// What is said of a zone.
+fn zone([first, last]: [u16; 2]) -> [String; 3] {
+    [first.to_string(), last.to_string(), format!("{} m", last - first + 1)]
+}
+
+/// Whether two zones overlap or touch.
+fn meet([first, last]: [u16; 2], [begin, end]: [u16; 2]) -> bool {
+    begin <= last + 1 && first <= end + 1
+}
+
+/// What a row says of one side: its zone; where it has none, whether one of that side, which stands above, meets the other
+/// side's zone.
+fn half(own: Option<[u16; 2]>, zones: &[[u16; 2]], other: Option<[u16; 2]>) -> [String; 3] {
+    let reaches_in = other.is_some_and(|other| zones.iter().any(|&zone| meet(zone, other)));
+    let again = if reaches_in { "\"" } else { "" };
+    own.map_or([again, "", ""].map(str::to_string), zone)
 }
 
 /// The zones of a letter before and after: each before beside the first one after that overlaps or touches it and is free, all
@@ -78,7 +90,7 @@ fn beside(before: &[[u16; 2]], after: &[[u16; 2]]) -> Vec<[Option<[u16; 2]>; 2]>
     let mut free = after.to_vec();
     let mut rows = Vec::new();
     for &[first, last] in before {
-        let partner = free.iter().position(|&[begin, end]| begin <= last + 1 && first <= end + 1);
+        let partner = free.iter().position(|&other| meet([first, last], other));
         rows.push([Some([first, last]), partner.map(|place| free.remove(place))]);
     }
     rows.extend(free.into_iter().map(|alone| [None, Some(alone)]));
@@ -97,8 +109,8 @@ fn expected([before, after]: &[Drawn; 2]) -> [Table; 4] {
     for (bit, name) in (0..).zip(NAMES) {
         let [old, new] = [before, after].map(|drawn| runs(&drawn.marks, bit));
         let mut rows: Table = Vec::new();
-        for [old, new] in beside(&old, &new) {
-            rows.push([&[name.to_string()], &zone(old)[..], &zone(new)[..]].concat());
+        for [zone, other] in beside(&old, &new) {
+            rows.push([&[name.to_string()], &half(zone, &old, other)[..], &half(other, &new, zone)[..]].concat());
         }
         if rows.is_empty() {
             rows.push(words(&[name, "", "", "", "", "", ""]));
@@ -108,7 +120,7 @@ fn expected([before, after]: &[Drawn; 2]) -> [Table; 4] {
         }
         zones.extend(rows);
         for (table, marks) in [(&mut gained, &gained_marks), (&mut lost, &lost_marks)] {
-            table.extend(runs(marks, bit).into_iter().map(|run| [&[name.to_string()], &zone(Some(run))[..]].concat()));
+            table.extend(runs(marks, bit).into_iter().map(|run| [&[name.to_string()], &zone(run)[..]].concat()));
         }
         let many = |marks: &[u8]| marks.iter().filter(|&mark| mark >> bit & 1 == 1).count().to_string();
         let counts = [&before.marks, &after.marks, &gained_marks, &lost_marks].map(|marks| many(marks));
@@ -208,7 +220,7 @@ fn edges() {
 }
 
 /// A zone that moves by its whole length touches the place where it was, and stands beside it; one that a station parts from it
-/// stands alone.
+/// stands alone, and one that touches a zone above has the sign for it.
 #[test]
 fn zones_that_touch() {
     let folder = folder("preview_touch");
@@ -217,6 +229,7 @@ fn zones_that_touch() {
         (196, 500, [(38, -500), (93, 500)], (0, 10), "25 25 1 m 24 24 1 m"),
         (175, 900, [(25, 500), (65, -400)], (1, 26), "19 24 6 m"),
         (204, 800, [(23, 400), (82, -400)], (1, 12), "61 62 2 m"),
+        (169, 700, [(51, 0), (89, 300)], (0, 10), "28 29 2 m \""),
     ] {
         let curves = curves.map(|(pvi, grade_out)| Curve { pvi, length: 2, grade_out }).to_vec();
         let road = Road { speed: 40, purpose: 1, length, start_height: 0, first_grade, curves };
@@ -225,6 +238,20 @@ fn zones_that_touch() {
         let ended = run_with(&folder, &["preview", "-", "--curve", &place, "--length", &length], &bytes(&road)).0;
         let mut lines = ended.output.lines().filter_map(|line| line.strip_prefix(NAMES[2]));
         assert!(lines.any(|line| line.split_whitespace().eq(words.split(' '))), "{}", ended.output);
+    }
+}
+
+/// Zones that grow together, and then part again: where a zone reaches into further rows, a sign stands for it there.
+#[test]
+fn zones_that_join_and_part() {
+    let (folder, _) = with_road("preview_join");
+    let joined = ["434 567 134 m 434 818 385 m", "575 687 113 m \"", "695 818 124 m \""];
+    let parted = ["434 818 385 m 434 567 134 m", "\" 575 687 113 m", "\" 695 818 124 m"];
+    for (file, length, changed, expected) in [("a.vcp", "2", "b.vcp", joined), ("b.vcp", "40", "c.vcp", parted)] {
+        let ended = run(&folder, &["preview", file, "--curve", "3", "--length", length, "-o", changed]);
+        let rows = ended.output.lines().filter_map(|line| line.strip_prefix(NAMES[1])).take(3);
+        let rows: Vec<String> = rows.map(|row| row.split_whitespace().collect::<Vec<_>>().join(" ")).collect();
+        assert_eq!(rows, expected, "{}", ended.output);
     }
 }
 
@@ -280,6 +307,11 @@ fn file_of_the_changed_road() {
         assert_eq!(fs::read(folder.join("a.vcp")).unwrap(), file);
         fs::remove_file(folder.join("b.vcp")).unwrap();
     }
+    // A second name of the road's own file becomes that of another file.
+    fs::hard_link(folder.join("a.vcp"), folder.join("b.vcp")).unwrap();
+    assert_eq!(run(&folder, &[&CALL[..], &["-o", "b.vcp"]].concat()).status, 0);
+    assert_eq!(fs::read(folder.join("a.vcp")).unwrap(), file);
+    assert_eq!(fs::read(folder.join("b.vcp")).unwrap(), bytes(&change.after));
     // The changed road has the zones that were shown behind, and with the old length it is the road as it was.
     expect(&folder, &[&CALL[..], &["-o", "b.vcp"]].concat(), &run(&folder, &CALL).output);
     expect(&folder, &["plot", "b.vcp"], &Drawn::of(&change.after).picture(&change.after));
@@ -289,7 +321,7 @@ fn file_of_the_changed_road() {
     assert_eq!(names(&folder), ["a.vcp", "b.vcp", "c.vcp"]);
 }
 
-/// The road itself is not replaced, by whatever name, and standard output is no file for it.
+/// The road itself is not replaced, by whatever name; standard output is no file for the changed one, nor is a picture.
 #[test]
 fn files_that_are_not_written() {
     let (folder, _) = with_road("preview_not_written");
@@ -301,6 +333,11 @@ fn files_that_are_not_written() {
     }
     for name in ["-", "/dev/stdout"] {
         expect_wrong(&folder, &[&CALL[..], &["-o", name]].concat(), "-o needs a file: standard output has the preview");
+    }
+    for name in ["b.svg", "B.SVG"] {
+        let reason = "-o is for the changed road: standard output has the picture";
+        expect_wrong(&folder, &[&CALL[..], &["-o", name, "--svg"]].concat(), reason);
+        expect_wrong(&folder, &[&CALL[..], &["-o", name]].concat(), reason);
     }
     let ended = run(&folder, &[&CALL[..], &["-o", "none/b.vcp"]].concat());
     let line = "none/b.vcp: No such file or directory\n";
@@ -388,5 +425,8 @@ fn wrong_uses() {
         expect_wrong(&folder, &["preview", "a.vcp", "--curve", curve, "--length", length], reason);
     }
     expect_wrong(&folder, &[&CALL[..], &["--passing", "585"]].concat(), "there is no option --passing");
+    // What is wrong with the call is said before a file is read.
+    let missing = ["preview", "none.vcp", "--curve", "3", "--length", "80", "-o", "-"];
+    expect_wrong(&folder, &missing, "-o needs a file: standard output has the preview");
     assert_eq!(names(&folder), ["a.vcp"]);
 }

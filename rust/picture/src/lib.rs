@@ -11,7 +11,7 @@
 use std::fmt::{self, Formatter};
 
 pub use crate::page::{level_page, LevelPage, LevelRow};
-pub use crate::preview::{preview, Preview};
+pub use crate::preview::{differing, preview, Preview};
 use crate::sheet::{Sheet, BOTTOM, LEFT, RIGHT, SHEET_WIDTH, STRIP_STEP};
 
 mod axes;

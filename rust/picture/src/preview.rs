@@ -20,9 +20,9 @@ pub struct Preview<'a> {
 
 /// What the lines and the changed curve stand for.
 const KEY: &str = r#"<path class="old line" d="M28000 9000H32000"/><text x="32600" y="9500">the road as it is</text>
-<path class="road" d="M46000 9000H50000"/><text x="50600" y="9500">the changed road</text>
-<path class="crest changed" d="M64000 9600Q66000 7600 68000 9600Z"/><path class="old" d="M65000 9600Q66000 7600 67000 9600Z"/>
-<text x="68600" y="9500">the changed curve, its old shape dashed</text>
+<path class="road" d="M46000 9000H50000"/><text x="50600" y="9500">the changed road, its zones in colour</text>
+<path class="crest changed" d="M78000 9600Q80000 7600 82000 9600Z"/><path class="old" d="M79000 9600Q80000 7600 81000 9600Z"/>
+<text x="82600" y="9500">the changed curve, its old shape dashed</text>
 "#;
 
 /// The picture of a preview: an SVG document that needs nothing else. It is that of the changed road, with the profile of the
@@ -31,6 +31,12 @@ pub fn preview(preview: &Preview) -> String {
     let Preview { before, after, .. } = preview;
     let sheet = Sheet::of(&[before.heights, after.heights], after.rows().count(), PAIR_STEP);
     Picture { profile: after, preview: Some(preview), sheet }.to_string()
+}
+
+/// At how many of so many stations the marks differ, in words.
+pub fn differing(differing: u32, stations: u32) -> String {
+    let verb = if differing == 1 { "differs" } else { "differ" };
+    format!("{differing} of {stations} stations {verb}")
 }
 
 impl Preview<'_> {
@@ -53,14 +59,14 @@ impl Preview<'_> {
 impl Picture<'_> {
     /// Of a preview: at how many stations the marks differ, and a key.
     pub fn differing(&self, out: &mut Formatter) -> fmt::Result {
-        let Some(Preview { before, differing, .. }) = self.preview else { return Ok(()) };
-        let (stations, verb) = (before.heights.len(), if *differing == 1 { "differs" } else { "differ" });
-        write!(out, r#"<text class="sub letter" x="1500" y="9500">"#)?;
-        writeln!(out, "{differing} of {stations} stations {verb}</text>")?;
+        let Some(Preview { before, differing: many, .. }) = self.preview else { return Ok(()) };
+        let words = differing(*many, before.heights.len() as u32);
+        writeln!(out, r#"<text class="sub letter" x="1500" y="9500">{words}</text>"#)?;
         out.write_str(KEY)
     }
 
-    /// Of a preview: the profile of the road as it is, from where the two profiles part to where they meet again.
+    /// Of a preview: the profile of the road as it is, from where the two profiles part to where they meet again. It lies on a
+    /// bright band, so that it is seen where zones are coloured.
     pub fn old_road(&self, out: &mut Formatter) -> fmt::Result {
         let Some(Preview { before, after, .. }) = self.preview else { return Ok(()) };
         let pairs = before.heights.iter().zip(after.heights).enumerate();
@@ -69,6 +75,7 @@ impl Picture<'_> {
         let last = stations.next_back().unwrap_or(first);
         let seen = first.saturating_sub(1)..(last + 2).min(before.heights.len());
         let points = self.points(seen.start as i64, &before.heights[seen]);
-        writeln!(out, r#"<polyline class="old line" points="{points}"/>"#)
+        writeln!(out, r#"<defs><polyline id="old" points="{points}"/></defs>"#)?;
+        writeln!(out, r##"<use href="#old" class="old halo"/><use href="#old" class="old line"/>"##)
     }
 }

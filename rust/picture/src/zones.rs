@@ -22,6 +22,9 @@ const LOWER_LANE: Lane = Lane { bars: BARS + BAR_HEIGHT + 200, labels: BARS + 2 
 /// The labels of zones are a twentieth of the road apart.
 const LABELS: i64 = 20;
 
+/// A zone that has a label, behind the station in its middle.
+type Labelled<'a> = (i64, &'a [u16; 2]);
+
 /// The profile's line in the parts that are cut out of it.
 const ROAD: &str = r##"<use href="#profile" class="road ns" clip-path="url(#ns)"/>
 <use href="#profile" class="road" clip-path="url(#judged)"/>
@@ -72,7 +75,7 @@ impl Picture<'_> {
             let name = format!(r#"<tspan class="letter">{letter}</tspan>&#160; {meaning}"#);
             writeln!(out, r#"<g class="{class}" transform="translate(0 {top})">"#)?;
             match before.next() {
-                None => self.strip(out, &name, zones, LANE)?,
+                None => self.strip(out, &name, zones, &self.labelled([zones; 2])[0], LANE)?,
                 Some(before) => self.pair(out, &name, [before, zones])?,
             }
             writeln!(out, "</g>")?;
@@ -83,30 +86,55 @@ impl Picture<'_> {
     /// Two strips under one name: the zones of the road as it is, and below them those of the changed road.
     fn pair(&self, out: &mut Formatter, name: &str, [before, after]: [&[[u16; 2]]; 2]) -> fmt::Result {
         writeln!(out, r#"<text x="1500" y="{}">{name}</text>"#, LANE.labels)?;
+        let [labelled_before, labelled_after] = self.labelled([before, after]);
         writeln!(out, r#"<g class="before">"#)?;
-        self.strip(out, "before", before, LANE)?;
+        self.strip(out, "before", before, &labelled_before, LANE)?;
         writeln!(out, "</g>")?;
-        self.strip(out, "after", after, LOWER_LANE)
+        self.strip(out, "after", after, &labelled_after, LOWER_LANE)
     }
 
     /// A strip: its name, a bar for each zone, their stations and their number.
-    fn strip(&self, out: &mut Formatter, name: &str, zones: &[[u16; 2]], lane: Lane) -> fmt::Result {
+    fn strip(
+        &self,
+        out: &mut Formatter,
+        name: &str,
+        zones: &[[u16; 2]],
+        labelled: &[Labelled],
+        lane: Lane,
+    ) -> fmt::Result {
         let Lane { bars, labels } = lane;
         let (foot, line) = (bars + BAR_HEIGHT, bars + 1_350);
         writeln!(out, r#"<path class="lane" d="M{LEFT} {bars}H{RIGHT}V{foot}H{LEFT}Z"/>"#)?;
         write!(out, r#"<path d="M1500 {bars}H3100V{foot}H1500Z"/>"#)?;
         writeln!(out, r#"<text x="3800" y="{line}">{name}</text>"#)?;
         self.bars(out, zones, bars, BAR_HEIGHT)?;
-        self.zone_labels(out, zones, labels)?;
+        self.zone_labels(out, labelled, labels)?;
         let plural = if zones.len() == 1 { "" } else { "s" };
         writeln!(out, r#"<text x="151200" y="{line}">{} zone{plural}</text>"#, zones.len())
     }
 
-    /// The zones' first and last stations, beside them, where there is room.
-    fn zone_labels(&self, out: &mut Formatter, zones: &[[u16; 2]], y: i64) -> fmt::Result {
-        let middle = |&[first, last]: &[u16; 2]| (i64::from(first) + i64::from(last)) / 2;
-        let labels = zones.iter().map(|zone| (middle(zone), zone));
-        for (middle, [first, last]) in self.sheet.apart(labels, LABELS) {
+    /// The zones of two strips whose labels have room: first such as one strip alone has, then those of both, in both or in
+    /// neither.
+    fn labelled<'a>(&self, [before, after]: [&'a [[u16; 2]]; 2]) -> [Vec<Labelled<'a>>; 2] {
+        let in_the_middle = |zone: &'a [u16; 2]| ((i64::from(zone[0]) + i64::from(zone[1])) / 2, zone);
+        let alone = [(before, after), (after, before)].map(|(own, other)| {
+            let zones = own.iter().filter(|zone| !other.contains(zone)).map(in_the_middle);
+            self.sheet.apart(zones, LABELS).collect::<Vec<_>>()
+        });
+        let room = self.sheet.room(LABELS);
+        let is_free = |&(middle, _): &Labelled| alone.iter().flatten().all(|(other, _)| (other - middle).abs() >= room);
+        let of_both = before.iter().filter(|zone| after.contains(zone)).map(in_the_middle).filter(is_free);
+        let of_both: Vec<_> = self.sheet.apart(of_both, LABELS).collect();
+        alone.clone().map(|mut labelled| {
+            labelled.extend(&of_both);
+            labelled.sort_unstable();
+            labelled
+        })
+    }
+
+    /// The zones' first and last stations, beside them.
+    fn zone_labels(&self, out: &mut Formatter, labelled: &[Labelled], y: i64) -> fmt::Result {
+        for &(middle, [first, last]) in labelled {
             write!(out, r#"<text class="zone" x="{}" y="{y}">{first}"#, self.sheet.x(middle))?;
             if first < last {
                 write!(out, "&#8211;{last}")?;

@@ -111,16 +111,23 @@ fn compare_strips(lists: &[Vec<[u16; 2]>], plot: &Plot, all: &Elements) {
         assert_eq!(group.get("transform"), format!("translate(0 {})", 66_500 + 4_400 * place), "{class}");
         let words = format!("&#160; {meaning}");
         assert_eq!(all.words(strip).take(2).collect::<Vec<_>>(), [&words, letter], "{class}");
-        compare_strip(zones, 1_500, 1_200, plot, all, strip);
+        compare_strip(zones, &plot.zone_labels(zones), [1_500, 1_200], plot, all, strip);
     }
 }
 
-/// A strip in a group: its bars from their upper edge on, the stations at a height, and their number.
-fn compare_strip(zones: &[[u16; 2]], top: i64, labels: i64, plot: &Plot, all: &Elements, group: usize) {
+/// A strip in a group: its bars from their upper edge on, the labels at a height, and the number of zones.
+fn compare_strip(
+    zones: &[[u16; 2]],
+    labels: &[(i64, String)],
+    [top, height]: [i64; 2],
+    plot: &Plot,
+    all: &Elements,
+    group: usize,
+) {
     assert_eq!(all.rectangles(group), plot.zones(zones, top, 1_800));
     let stations: Vec<&Element> = all.inside(group).filter(|element| element.get("class") == "zone").collect();
-    assert!(stations.iter().all(|station| station.number("y") == labels));
-    assert_eq!(stations.into_iter().map(Element::label).collect::<Vec<_>>(), plot.zone_labels(zones));
+    assert!(stations.iter().all(|station| station.number("y") == height));
+    assert_eq!(stations.into_iter().map(Element::label).collect::<Vec<_>>(), labels);
     let plural = if zones.len() == 1 { "" } else { "s" };
     let tally = format!("{} zone{plural}", zones.len());
     assert!(all.inside(group).any(|element| element.text == tally), "{tally}");

@@ -52,23 +52,30 @@ fn compare_pairs(before: &Drawn, after: &Drawn, plot: &Plot, all: &Elements) {
         let words: Vec<&str> = all.words(pair).collect();
         assert_eq!(words[..3], [&format!("&#160; {meaning}"), letter, "before"], "{class}");
         assert_eq!(words.iter().filter(|&&word| word == "after").count(), 1, "{class}");
-        compare_strip(&before.zones[place], 1_500, 1_200, plot, all, all.group_in(pair, "before"));
-        compare_strip(&after.zones[place], 3_500, 6_450, plot, all, pair);
+        let [old, new] = [before, after].map(|drawn| &drawn.zones[place][..]);
+        let [old_labels, new_labels] = plot.pair_labels([old, new]);
+        compare_strip(old, &old_labels, [1_500, 1_200], plot, all, all.group_in(pair, "before"));
+        compare_strip(new, &new_labels, [3_500, 6_450], plot, all, pair);
     }
 }
 
 /// The profile of the road as it is, over the changed road, from the station before the first height that differs to the one behind
 /// the last.
 fn compare_old_road(before: &Drawn, after: &Drawn, plot: &Plot, all: &Elements) {
-    let mut lines = (0..).zip(&all.0).filter(|(_, line)| line.name == "polyline" && line.get("class") == "old line");
+    let mut lines = all.with("id", "old");
+    let mut uses = (0..).zip(&all.0).filter(|(_, line)| line.name == "use" && line.get("href") == "#old");
     let differ = |&station: &usize| before.heights[station] != after.heights[station];
     let stations: Vec<usize> = (0..before.heights.len()).filter(differ).collect();
     if let Some((first, last)) = stations.first().zip(stations.last()) {
-        let (place, line) = lines.next().expect("a line of the road as it is");
+        let line = lines.next().expect("a line of the road as it is");
         assert_eq!(line.points(), plot.profile(&before.heights)[first - 1..=last + 1]);
-        assert!(place > all.only("clip-path", "url(#S)").0, "it lies over the changed road");
+        for class in ["old halo", "old line"] {
+            let (place, line) = uses.next().expect("the line is drawn, over a bright band");
+            assert_eq!(line.get("class"), class);
+            assert!(place > all.only("clip-path", "url(#S)").0, "it lies over the changed road");
+        }
     }
-    assert!(lines.next().is_none(), "one line where they differ, else none");
+    assert!(lines.next().is_none() && uses.next().is_none(), "one line where they differ, else none");
 }
 
 // ---- changes
@@ -177,16 +184,42 @@ fn keys() {
     let change = Change::of(&road, 3, 80).expect("it is accepted");
     let all = Elements::of(&change.picture(&change.drawn()));
     let key = [
-        Outline::new("crest changed", "MQZ", &[(64_000, 9_600), (66_000, 7_600), (68_000, 9_600)]),
-        Outline::new("old", "MQZ", &[(65_000, 9_600), (66_000, 7_600), (67_000, 9_600)]),
+        Outline::new("crest changed", "MQZ", &[(78_000, 9_600), (80_000, 7_600), (82_000, 9_600)]),
+        Outline::new("old", "MQZ", &[(79_000, 9_600), (80_000, 7_600), (81_000, 9_600)]),
     ];
     assert_eq!(all.outlines()[..2], key);
     let lines: Vec<_> =
         all.with("class", "old line").chain(all.with("class", "road")).map(|line| line.name.as_str()).collect();
-    assert_eq!(lines, ["path", "polyline", "path", "use"]);
+    assert_eq!(lines, ["path", "use", "path", "use"]);
     let words: Vec<&str> = all.with("y", "9500").map(|text| text.text.trim_end()).collect();
-    let said = ["the road as it is", "the changed road", "the changed curve, its old shape dashed"];
+    let said =
+        ["the road as it is", "the changed road, its zones in colour", "the changed curve, its old shape dashed"];
     assert_eq!(words[1..], said);
+}
+
+/// Of 16 short crests on a road of 8,000 m the seventh zone goes: its stations stand there, whatever gives way, and those of the
+/// other zones stand in both rows or in neither.
+#[test]
+fn labels_of_what_changes() {
+    let curves = (0..32).map(|place| road::Curve {
+        pvi: 2_000 + 125 * place,
+        length: 10,
+        grade_out: if place % 2 == 0 { -600 } else { 600 },
+    });
+    let road =
+        Road { speed: 40, purpose: 1, length: 8_000, start_height: 0, first_grade: 600, curves: curves.collect() };
+    let change = Change::of(&road, 6, 220).expect("it is accepted");
+    compare(&change);
+    let all = Elements::of(&change.picture(&change.drawn()));
+    let pair = all.only("class", "S").0;
+    let labels = |group: usize| -> Vec<String> {
+        let stations = all.inside(group).filter(|element| element.get("class") == "zone");
+        stations.map(|element| element.label().1).collect()
+    };
+    let (mut before, after) = (labels(all.group_in(pair, "before")), labels(pair));
+    let gone = before.iter().position(|label| label == "2708&#8211;2738").expect("the zone that goes has its stations");
+    before.remove(gone);
+    assert_eq!(before, after);
 }
 
 /// The README's picture to the byte: three crests, the second twice as long as it is.

@@ -47,6 +47,11 @@ fn drawn(stations: &[i64], room: i64) -> Vec<usize> {
     places
 }
 
+/// The middle of a zone, rounded down to a station.
+fn middle([first, last]: &[u16; 2]) -> i64 {
+    (i64::from(*first) + i64::from(*last)) / 2
+}
+
 impl Plot {
     pub fn of(heights: &[i32]) -> Plot {
         Plot::with_range(heights.len(), heights)
@@ -95,13 +100,36 @@ impl Plot {
     /// The labels of the zones: x of their middles, rounded down to a station, and their stations. From one to the next it is
     /// a twentieth of the road or more.
     pub fn zone_labels(&self, zones: &[[u16; 2]]) -> Vec<(i64, String)> {
-        let middles: Vec<i64> = zones.iter().map(|&[first, last]| (i64::from(first) + i64::from(last)) / 2).collect();
-        let label = |place: usize| {
-            let [first, last] = zones[place];
-            let text = if first == last { first.to_string() } else { format!("{first}&#8211;{last}") };
-            (self.across(2 * middles[place]), text)
-        };
-        drawn(&middles, self.length / 20).into_iter().map(label).collect()
+        let middles: Vec<i64> = zones.iter().map(middle).collect();
+        drawn(&middles, self.length / 20).into_iter().map(|place| self.zone_label(&zones[place])).collect()
+    }
+
+    fn zone_label(&self, zone: &[u16; 2]) -> (i64, String) {
+        let [first, last] = zone;
+        let text = if first == last { first.to_string() } else { format!("{first}&#8211;{last}") };
+        (self.across(2 * middle(zone)), text)
+    }
+
+    /// The labels of two strips: first the zones that one of them alone has find room in it, then those of both in both.
+    pub fn pair_labels(&self, strips: [&[[u16; 2]]; 2]) -> [Vec<(i64, String)>; 2] {
+        let near = |one: &[u16; 2], other: &[u16; 2]| (middle(one) - middle(other)).abs() < self.length / 20;
+        let mut kept: [Vec<[u16; 2]>; 2] = [vec![], vec![]];
+        for strip in [0, 1] {
+            for zone in strips[strip] {
+                if !strips[1 - strip].contains(zone) && !kept[strip].iter().any(|other| near(zone, other)) {
+                    kept[strip].push(*zone);
+                }
+            }
+        }
+        for zone in strips[0] {
+            if strips[1].contains(zone) && !kept.iter().flatten().any(|other| near(zone, other)) {
+                kept.iter_mut().for_each(|kept| kept.push(*zone));
+            }
+        }
+        kept.map(|mut zones| {
+            zones.sort_unstable();
+            zones.iter().map(|zone| self.zone_label(zone)).collect()
+        })
     }
 
     /// The numbers of the station axis: at most 16 round steps, and the road's end where it is more than a 32nd of the road
