@@ -66,7 +66,7 @@ impl Picture<'_> {
     }
 
     /// Of a preview: the profile of the road as it is, from where the two profiles part to where they meet again. It lies on a
-    /// bright band, so that it is seen where zones are coloured.
+    /// pale band, so that it is seen where zones are coloured.
     pub fn old_road(&self, out: &mut Formatter) -> fmt::Result {
         let Some(Preview { before, after, .. }) = self.preview else { return Ok(()) };
         let pairs = before.heights.iter().zip(after.heights).enumerate();

@@ -70,7 +70,7 @@ fn compare_old_road(before: &Drawn, after: &Drawn, plot: &Plot, all: &Elements) 
         let line = lines.next().expect("a line of the road as it is");
         assert_eq!(line.points(), plot.profile(&before.heights)[first - 1..=last + 1]);
         for class in ["old halo", "old line"] {
-            let (place, line) = uses.next().expect("the line is drawn, over a bright band");
+            let (place, line) = uses.next().expect("the line is drawn, over a pale band");
             assert_eq!(line.get("class"), class);
             assert!(place > all.only("clip-path", "url(#S)").0, "it lies over the changed road");
         }
