@@ -1,5 +1,5 @@
 -- What acceptance says: every number of an accepted road is in its range, and its curves are in order and in their ranges.
-use Prim.Native.Nat.{ℕ, zero, suc, _≤_, _<_, _%_}
+use Prim.Native.Nat.{ℕ, zero, suc, _≤_, _<_, _%_, min}
 use mathlib.Core.Bool.{not}
 use mathlib.Core.List.{List, [], _∷_}
 use mathlib.Core.Path.{_≡_}
@@ -12,13 +12,13 @@ use lib.Seq.{getD-take, length-take-le}
 use lib.Signed.{_≤ℤ_}
 use Rattle.whole.proofs.Table.{Each}
 use Rattle.terms.specs.Answers.{outside, outsideℤ, gradeOutside}
-use Rattle.terms.specs.Limits.{leastSpeed, greatestSpeed, firstDecision, lastPurpose, greatestRoad, lowestStart, highestStart, greatestGrade, greatestCurveCount, greatestCurve}
-use Rattle.terms.specs.Refusals.{curveCountRefused, speedRefused, purposeRefused, roadLengthRefused, startRefused, gradeRefused, curveLengthRefused, curvePlaceRefused, curveOrderRefused}
+use Rattle.terms.specs.Limits.{firstVersion, secondVersion, leastSpeed, greatestSpeed, firstDecision, lastPurpose, lowestStart, highestStart, greatestGrade, greatestCurveCount, greatestCurve}
+use Rattle.terms.specs.Refusals.{versionRefused, curveCountRefused, speedRefused, purposeRefused, roadLengthRefused, startRefused, gradeRefused, curveLengthRefused, curvePlaceRefused, curveOrderRefused}
 use Rattle.terms.specs.declared.Verdict.the-variants.{Accepted}
 use Rattle.terms.proofs.Laws.{fault-accepted, first-fault-accepted, no-difference, inside, inside-ℤ}
 use Rattle.road.specs.declared.Curve.{Curve}
 use Rattle.road.specs.declared.Road.{Road}
-use Rattle.road.specs.Road.{half, begin, end, startOf, curvesOf, lengthOutside, placeOutside, curveVerdict, curvesVerdict, numbersVerdict, roadVerdict}
+use Rattle.road.specs.Road.{half, begin, end, startOf, curvesOf, lengthOutside, placeOutside, curveVerdict, curvesVerdict, longestRoad, numbersVerdict, verdictUpTo}
 use Rattle.road.specs.Order.{Placed, InOrder, CurveInRange}
 
 -- ---- curves
@@ -51,15 +51,18 @@ accepted-curves n before (c ∷ cs) e =
     ((here .0, rest .0), (here .1, rest .1))
 
 -- ---- a road
--- every number of the road is in its range, and its curves are in order and in their ranges
-pub record SoundRoad (r : Road) : Type 0 where
+-- every number of the road is in its range, where none over `most` metres is taken, and its curves are in order and in their ranges
+pub record SoundRoad (most : ℕ) (r : Road) : Type 0 where
+  pub version-low : firstVersion ≤ r .version
+  pub version-high : r .version ≤ secondVersion
   pub count : r .count ≤ greatestCurveCount
   pub speed-low : leastSpeed ≤ r .speed
   pub speed-high : r .speed ≤ greatestSpeed
   pub purpose-low : firstDecision ≤ r .purpose
   pub purpose-high : r .purpose ≤ lastPurpose
   pub length-low : 1 ≤ r .length
-  pub length-high : r .length ≤ greatestRoad
+  pub length-high : r .length ≤ most
+  pub length-of-version : r .length ≤ longestRoad (r .version)
   pub start-low : lowestStart ≤ℤ r .«start_height»
   pub start-high : r .«start_height» ≤ℤ highestStart
   pub grade-low : negℤ (pos greatestGrade) ≤ℤ r .«first_grade»
@@ -67,19 +70,24 @@ pub record SoundRoad (r : Road) : Type 0 where
   pub in-order : InOrder (r .length) 0 (curvesOf r)
   pub in-range : Each CurveInRange (curvesOf r)
 
-pub accepted-road : (r : Road) → roadVerdict r ≡ Accepted → SoundRoad r
-unfolding roadVerdict numbersVerdict
-accepted-road r e =
-    let count = fault-accepted (ltb greatestCurveCount (r .count)) curveCountRefused _ e in
-    let both = first-fault-accepted (numbersVerdict r) _ (count .1) in
+pub accepted-road : {most : ℕ} (r : Road) → verdictUpTo most r ≡ Accepted → SoundRoad most r
+unfolding verdictUpTo numbersVerdict
+accepted-road {most} r e =
+    let longest = min most (longestRoad (r .version)) in
+    let version = fault-accepted (outside firstVersion secondVersion (r .version)) versionRefused _ e in
+    let count = fault-accepted (ltb greatestCurveCount (r .count)) curveCountRefused _ (version .1) in
+    let both = first-fault-accepted (numbersVerdict most r) _ (count .1) in
     let speed = fault-accepted (outside leastSpeed greatestSpeed (r .speed)) speedRefused _ (both .0) in
     let purpose = fault-accepted (outside firstDecision lastPurpose (r .purpose)) purposeRefused _ (speed .1) in
-    let length = fault-accepted (outside 1 greatestRoad (r .length)) roadLengthRefused _ (purpose .1) in
+    let length = fault-accepted (outside 1 longest (r .length)) roadLengthRefused _ (purpose .1) in
     let start = fault-accepted (outsideℤ lowestStart highestStart (r .«start_height»)) startRefused _ (length .1) in
     let grade = fault-accepted (gradeOutside (r .«first_grade»)) gradeRefused _ (start .1) in
+    let which = inside firstVersion secondVersion (r .version) (version .0) in
     let v = inside leastSpeed greatestSpeed (r .speed) (speed .0) in
     let p = inside firstDecision lastPurpose (r .purpose) (purpose .0) in
-    let l = inside 1 greatestRoad (r .length) (length .0) in
+    let l = inside 1 longest (r .length) (length .0) in
+    let high : r .length ≤ most = omega (arith, l .1) in
+    let of-version : r .length ≤ longestRoad (r .version) = omega (arith, l .1) in
     let h = inside-ℤ lowestStart highestStart (r .«start_height») (start .0) in
     let g = inside-ℤ (negℤ (pos greatestGrade)) (pos greatestGrade) (r .«first_grade») (grade .0) in
     let n = nltb→le greatestCurveCount (r .count) (count .0) in
@@ -95,8 +103,8 @@ curve-at n last (c ∷ cs) zero d order ranges h =
     (record { even = p .even; from-zero = p .from-zero; before-end = p .before-end; ordered = omega arith }, ranges .0)
 curve-at n last (c ∷ cs) (suc i) d order ranges h = curve-at n (end c) cs i d (order .1) (ranges .1) (omega arith)
 
-pub accepted-curve-at : (r : Road) → roadVerdict r ≡ Accepted → r .count ≤ length (r .curves) → (i : ℕ) (d : Curve) → i < r .count →
+pub accepted-curve-at : (most : ℕ) (r : Road) → verdictUpTo most r ≡ Accepted → r .count ≤ length (r .curves) → (i : ℕ) (d : Curve) → i < r .count →
     Placed (r .length) 0 (getD (r .curves) i d) × CurveInRange (getD (r .curves) i d)
-accepted-curve-at r e holds i d h =
-    let s = accepted-road r e in let used = length-take-le (r .count) (r .curves) holds in
+accepted-curve-at most r e holds i d h =
+    let s = accepted-road {most = most} r e in let used = length-take-le (r .count) (r .curves) holds in
     rw (getD-take (r .count) (r .curves) i d h) at (curve-at (r .length) 0 (curvesOf r) i d (s .in-order) (s .in-range) (omega arith))

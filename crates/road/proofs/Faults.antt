@@ -1,5 +1,5 @@
 -- Verdicts of curves in turn: the first fault among them decides.
-use Prim.Native.Nat.{ℕ, _+_, _≤_, _<_}
+use Prim.Native.Nat.{ℕ, _+_, _≤_, _<_, min}
 use mathlib.Core.List.{List, [], _∷_}
 use mathlib.Core.Path.{_≡_}
 use native.Mathlib.Omega.{arith}
@@ -7,12 +7,12 @@ use lib.Dec.{ltb}
 use lib.ListN.{length, drop, getD}
 use lib.Seq.{drop-length, length-take-le}
 use Rattle.terms.specs.Answers.{outside, outsideℤ, gradeOutside, firstFault}
-use Rattle.terms.specs.Limits.{leastSpeed, greatestSpeed, firstDecision, lastPurpose, greatestRoad, lowestStart, highestStart, greatestCurveCount}
+use Rattle.terms.specs.Limits.{firstVersion, secondVersion, leastSpeed, greatestSpeed, firstDecision, lastPurpose, lowestStart, highestStart, greatestCurveCount}
 use Rattle.terms.proofs.Laws.{ByteFault, fault-byte, first-fault-byte}
 use Rattle.terms.specs.declared.Verdict.the-variants.{Accepted}
 use Rattle.road.specs.declared.Curve.{Curve}
 use Rattle.road.specs.declared.Road.{Road}
-use Rattle.road.specs.Road.{begin, end, startOf, lengthOutside, placeOutside, sharpBreak, curvesOf, curveVerdict, curvesVerdict, numbersVerdict, roadVerdict}
+use Rattle.road.specs.Road.{begin, end, startOf, lengthOutside, placeOutside, sharpBreak, curvesOf, curveVerdict, curvesVerdict, longestRoad, numbersVerdict, verdictUpTo}
 use Rattle.road.proofs.Places.{next-curve, place-in-use}
 
 -- ---- the curves from a place on
@@ -43,17 +43,18 @@ curves-verdict-byte n before [] = tt
 curves-verdict-byte n before (c ∷ cs) =
     first-fault-byte (curveVerdict n before c) (curvesVerdict n c cs) (curve-verdict-byte n before c) (curves-verdict-byte n c cs)
 
-numbers-verdict-byte : (r : Road) → ByteFault (numbersVerdict r)
+numbers-verdict-byte : (most : ℕ) (r : Road) → ByteFault (numbersVerdict most r)
 unfolding numbersVerdict
-numbers-verdict-byte r =
+numbers-verdict-byte most r =
     fault-byte (outside leastSpeed greatestSpeed (r .speed)) _ _ (omega arith)
     (fault-byte (outside firstDecision lastPurpose (r .purpose)) _ _ (omega arith)
-    (fault-byte (outside 1 greatestRoad (r .length)) _ _ (omega arith)
+    (fault-byte (outside 1 (min most (longestRoad (r .version))) (r .length)) _ _ (omega arith)
     (fault-byte (outsideℤ lowestStart highestStart (r .«start_height»)) _ _ (omega arith)
     (fault-byte (gradeOutside (r .«first_grade»)) _ _ (omega arith) tt))))
 
-pub road-verdict-byte : (r : Road) → ByteFault (roadVerdict r)
-unfolding roadVerdict
-road-verdict-byte r =
-    fault-byte (ltb greatestCurveCount (r .count)) _ _ (omega arith)
-    (first-fault-byte (numbersVerdict r) _ (numbers-verdict-byte r) (curves-verdict-byte (r .length) (startOf r) (curvesOf r)))
+pub verdict-byte : (most : ℕ) (r : Road) → ByteFault (verdictUpTo most r)
+unfolding verdictUpTo
+verdict-byte most r =
+    fault-byte (outside firstVersion secondVersion (r .version)) _ _ (omega arith)
+    (fault-byte (ltb greatestCurveCount (r .count)) _ _ (omega arith)
+    (first-fault-byte (numbersVerdict most r) _ (numbers-verdict-byte most r) (curves-verdict-byte (r .length) (startOf r) (curvesOf r))))

@@ -1,3 +1,4 @@
 pub mod Accepted
 pub mod Faults
 pub mod Places
+pub mod UpTo

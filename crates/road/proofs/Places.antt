@@ -18,7 +18,7 @@ use Rattle.road.proofs.Road as road
 
 -- from what owning it tells (`c .good .0` of a first parameter)
 pub curve-places : (r : Road) (vs : List Val) → Is (row road.the-type) r vs → length (r .curves) ≡ greatestCurveCount
-curve-places r vs is = sym (length-map (r .curves) (curve.the-field .into)) ∙ is .1 .1 .1 .1 .1 .1 .1 .1 .0 .1 .0 .1
+curve-places r vs is = sym (length-map (r .curves) (curve.the-field .into)) ∙ is .1 .1 .1 .1 .1 .1 .1 .1 .1 .0 .1 .0 .1
 
 -- a place in use is one of the road's
 pub place-in-use : (r : Road) {i : ℕ} → r .count ≤ length (r .curves) → i < r .count → i < length (curvesOf r)

@@ -1,14 +1,14 @@
 -- docs/RULES.md, "The road and its heights" and "Road file": when a road handed over as a value is accepted. The refusals are
--- 4, then 6 to 13 and 25; the lowest curve with a fault decides.
-use Prim.Native.Nat.{ℕ, _+_, _-_, _/_, _%_}
-use mathlib.Core.Bool.{Bool, not, _||_, _&&_}
+-- 3, 4, then 6 to 13 and 25; the lowest curve with a fault decides.
+use Prim.Native.Nat.{ℕ, _+_, _-_, _/_, _%_, min}
+use mathlib.Core.Bool.{Bool, not, cond, _||_, _&&_}
 use mathlib.Core.List.{List, [], _∷_}
 use lib.Dec.{ltb, eqb}
 use lib.IntN.{pos, negℤ, _-ℤ_}
 use lib.ListN.{take}
 use Rattle.terms.specs.Answers.{outside, outsideℤ, gradeOutside, fault, firstFault}
-use Rattle.terms.specs.Limits.{leastSpeed, greatestSpeed, firstDecision, lastPurpose, greatestRoad, lowestStart, highestStart, greatestCurveCount, greatestCurve, greatestBreak}
-use Rattle.terms.specs.Refusals.{curveCountRefused, speedRefused, purposeRefused, roadLengthRefused, startRefused, gradeRefused, curveLengthRefused, curvePlaceRefused, curveOrderRefused, sharpBreakRefused}
+use Rattle.terms.specs.Limits.{firstVersion, secondVersion, leastSpeed, greatestSpeed, firstDecision, lastPurpose, greatestShortRoad, greatestLongRoad, lowestStart, highestStart, greatestCurveCount, greatestCurve, greatestBreak}
+use Rattle.terms.specs.Refusals.{versionRefused, curveCountRefused, speedRefused, purposeRefused, roadLengthRefused, startRefused, gradeRefused, curveLengthRefused, curvePlaceRefused, curveOrderRefused, sharpBreakRefused}
 use Rattle.terms.specs.declared.Verdict.{Verdict}
 use Rattle.terms.specs.declared.Verdict.the-variants.{Accepted}
 use Rattle.road.specs.declared.Curve.{Curve}
@@ -63,17 +63,30 @@ unfoldable pub curvesVerdict : ℕ → Curve → List Curve → Verdict
 curvesVerdict n before [] = Accepted
 curvesVerdict n before (c ∷ cs) = firstFault (curveVerdict n before c) (curvesVerdict n c cs)
 
--- a road's own numbers, the curves left out: 6, 7, 8, 9, 10
-unfoldable pub numbersVerdict : Road → Verdict
-numbersVerdict r =
+-- the longest road of a version, in metres
+abbrev pub longestRoad : ℕ → ℕ
+longestRoad version = cond (eqb version secondVersion) greatestLongRoad greatestShortRoad
+
+-- a road's own numbers, the curves left out, where no road over `most` metres is taken: 6, 7, 8, 9, 10
+unfoldable pub numbersVerdict : ℕ → Road → Verdict
+numbersVerdict most r =
     fault (outside leastSpeed greatestSpeed (r .speed)) speedRefused
     (fault (outside firstDecision lastPurpose (r .purpose)) purposeRefused
-    (fault (outside 1 greatestRoad (r .length)) roadLengthRefused
+    (fault (outside 1 (min most (longestRoad (r .version))) (r .length)) roadLengthRefused
     (fault (outsideℤ lowestStart highestStart (r .«start_height»)) startRefused
     (fault (gradeOutside (r .«first_grade»)) gradeRefused Accepted))))
 
--- 4, then the road's numbers, then its curves; the first comes after the road's start
-unfoldable pub roadVerdict : Road → Verdict
-roadVerdict r =
-    fault (ltb greatestCurveCount (r .count)) curveCountRefused
-    (firstFault (numbersVerdict r) (curvesVerdict (r .length) (startOf r) (curvesOf r)))
+-- 3, 4, then the road's numbers, then its curves; the first comes after the road's start
+unfoldable pub verdictUpTo : ℕ → Road → Verdict
+verdictUpTo most r =
+    fault (outside firstVersion secondVersion (r .version)) versionRefused
+    (fault (ltb greatestCurveCount (r .count)) curveCountRefused
+    (firstFault (numbersVerdict most r) (curvesVerdict (r .length) (startOf r) (curvesOf r))))
+
+-- whether a road is accepted
+abbrev pub roadVerdict : Road → Verdict
+roadVerdict r = verdictUpTo greatestLongRoad r
+
+-- whether the lister, the preview and the van's marking take it: none over 8,000 m, which is refused 8 in its place among the others
+abbrev pub shortRoadVerdict : Road → Verdict
+shortRoadVerdict r = verdictUpTo greatestShortRoad r

@@ -1,8 +1,8 @@
 // docs/RULES.md, "The road and its heights" and "Road file": a road as a value, and its refusals.
-ghost use Prim.Native.Nat.{_≤_};
+ghost use Prim.Native.Nat.{_≤_, min};
 ghost use mathlib.Core.Path.{_≡_};
 ghost use Rattle.terms.specs.Limits.{greatestCurveCount};
-ghost use Rattle.road.specs.Road.{half, begin, end, startOf, curvesOf, sharpBreak, curveVerdict, curvesVerdict, numbersVerdict, roadVerdict};
+ghost use Rattle.road.specs.Road.{half, begin, end, startOf, curvesOf, sharpBreak, curveVerdict, curvesVerdict, longestRoad, numbersVerdict, verdictUpTo};
 use terms::Verdict;
 
 // A curve: the station where its two straights meet (PVI), its length in metres, and its grade out.
@@ -15,9 +15,10 @@ pub struct Curve {
 // A road's places for curves.
 pub const CURVE_PLACES: usize = terms::GREATEST_CURVE_COUNT as usize;
 
-// A road: the speed, the decision purpose, the length N, the start height, the first grade, and the first `count` of the
-// curve places.
+// A road: its version, the speed, the decision purpose, the length N, the start height, the first grade, and the first `count` of
+// the curve places.
 pub struct Road {
+    pub version: u32,
     pub speed: u8,
     pub purpose: u8,
     pub length: u32,
@@ -27,9 +28,24 @@ pub struct Road {
     pub curves: [Curve; CURVE_PLACES],
 }
 
-// Refusals 6 to 10 of a road's own numbers, the curves left out.
-fn numbers_verdict(road: Road) -> Verdict
-    ensures { λ r. ⌜ r ≡ numbersVerdict road ⌝ }
+// The longest road of a version that is taken where no road over `most` metres is.
+fn longest_road(most: u32, version: u32) -> u32
+    ensures { λ r. ⌜ r ≡ min most (longestRoad version) ⌝ }
+{
+    let longest = if version == terms::SECOND_VERSION {
+        terms::GREATEST_LONG_ROAD
+    } else {
+        terms::GREATEST_SHORT_ROAD
+    };
+    if most < longest {
+        return most;
+    }
+    longest
+}
+
+// Refusals 6 to 10 of a road's own numbers, the curves left out, where no road over `most` metres is taken.
+fn numbers_verdict(road: Road, most: u32) -> Verdict
+    ensures { λ r. ⌜ r ≡ numbersVerdict most road ⌝ }
 {
     let speed = road.speed as u32;
     if terms::outside(terms::LEAST_SPEED, terms::GREATEST_SPEED, speed) {
@@ -39,7 +55,7 @@ fn numbers_verdict(road: Road) -> Verdict
     if terms::outside(terms::FIRST_DECISION, terms::LAST_PURPOSE, purpose) {
         return Verdict::Fault(terms::PURPOSE_REFUSED);
     }
-    if terms::outside(1, terms::GREATEST_ROAD, road.length) {
+    if terms::outside(1, longest_road(most, road.version), road.length) {
         return Verdict::Fault(terms::ROAD_LENGTH_REFUSED);
     }
     let start = road.start_height;
@@ -137,14 +153,18 @@ fn curves_verdict(road: Road) -> Verdict
     Verdict::Accepted
 }
 
-// Whether a road is accepted: the first of the refusals 4, then 6 to 13 and 25, that applies to it.
-pub fn verdict(road: Road) -> Verdict
-    ensures { λ r. ⌜ r ≡ roadVerdict road ⌝ }
+// Whether a road is accepted where none over `most` metres is: the first of the refusals 3, 4, then 6 to 13 and 25, that applies to
+// it.
+pub fn verdict(road: Road, most: u32) -> Verdict
+    ensures { λ r. ⌜ r ≡ verdictUpTo most road ⌝ }
 {
+    if terms::outside(terms::FIRST_VERSION, terms::SECOND_VERSION, road.version) {
+        return Verdict::Fault(terms::VERSION_REFUSED);
+    }
     if terms::GREATEST_CURVE_COUNT < road.count {
         return Verdict::Fault(terms::CURVE_COUNT_REFUSED);
     }
-    let v = numbers_verdict(road);
+    let v = numbers_verdict(road, most);
     match v {
         Verdict::Fault(_) => v,
         Verdict::Accepted => curves_verdict(road),

@@ -18,7 +18,7 @@ use Rattle.terms.specs.declared.Verdict.the-variants.{Accepted, Fault}
 abbrev pub outside : ℕ → ℕ → ℕ → Bool
 outside low high x = ltb x low || ltb high x
 
--- a list of heights or marks is empty or longer than 8,001
+-- a list of heights or marks is empty or longer than 100,001
 abbrev pub listOutside : ℕ → Bool
 listOutside n = outside 1 greatestList n
 

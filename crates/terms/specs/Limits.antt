@@ -16,13 +16,24 @@ stoppingPurpose = 0
 abbrev pub lastPurpose : ℕ
 lastPurpose = 5
 
--- a road: its decision purposes begin at 1; its length in metres, its start height in h-units, its number of curves and the
--- length of one in metres; and a grade, the road's or one that is handed over, in hundredths of a percent up or down
+-- the versions of a road and of its file
+abbrev pub firstVersion : ℕ
+firstVersion = 1
+
+abbrev pub secondVersion : ℕ
+secondVersion = 2
+
+-- the length of a road in metres: of version 1, and of any that the lister, the preview and the van's marking take; and of version 2
+abbrev pub greatestShortRoad : ℕ
+greatestShortRoad = 8000
+
+abbrev pub greatestLongRoad : ℕ
+greatestLongRoad = 100000
+
+-- a road: its decision purposes begin at 1; its start height in h-units, its number of curves and the length of one in metres; and a
+-- grade, the road's or one that is handed over, in hundredths of a percent up or down
 abbrev pub firstDecision : ℕ
 firstDecision = 1
-
-abbrev pub greatestRoad : ℕ
-greatestRoad = 8000
 
 abbrev pub lowestStart : ℤ
 lowestStart = negℤ (pos 10000000)
@@ -59,11 +70,7 @@ greatestHeight = 50000
 
 -- a list of heights or marks
 abbrev pub greatestList : ℕ
-greatestList = 8001
-
--- the longest road that is marked, and so listed, in metres
-abbrev pub greatestMarkedRoad : ℕ
-greatestMarkedRoad = 8000
+greatestList = 100001
 
 -- the farthest distance that is looked at, in metres
 abbrev pub greatestFarthest : ℕ

@@ -1,7 +1,7 @@
 -- The refusal numbers of docs/RULES.md.
 use Prim.Native.Nat.{ℕ}
 
--- a file of fewer than 16 bytes
+-- a file of fewer than 16 bytes, or of version 2 and fewer than 18
 abbrev pub shortFileRefused : ℕ
 shortFileRefused = 1
 
@@ -9,7 +9,7 @@ shortFileRefused = 1
 abbrev pub lettersRefused : ℕ
 lettersRefused = 2
 
--- version not 1
+-- version not 1 or 2
 abbrev pub versionRefused : ℕ
 versionRefused = 3
 
@@ -29,7 +29,7 @@ speedRefused = 6
 abbrev pub purposeRefused : ℕ
 purposeRefused = 7
 
--- length of the road not 1 to 8,000
+-- length of the road not 1 to 8,000, or to 100,000 in version 2
 abbrev pub roadLengthRefused : ℕ
 roadLengthRefused = 8
 
@@ -73,7 +73,7 @@ heightRefused = 17
 abbrev pub noLengthRefused : ℕ
 noLengthRefused = 18
 
--- a list of heights or marks empty or longer than 8,001
+-- a list of heights or marks empty or longer than 100,001
 abbrev pub listRefused : ℕ
 listRefused = 19
 

@@ -80,11 +80,24 @@ pub const STOPPING_PURPOSE: u32 = 0;
 
 pub const LAST_PURPOSE: u32 = 5;
 
-// A road: its decision purposes begin at 1; its length in metres, its start height in h-units, its number of curves and the
-// length of one in metres; and a grade, the road's or one that is handed over, in hundredths of a percent up or down.
-pub const FIRST_DECISION: u32 = 1;
+// The versions of a road and of its file.
+pub const FIRST_VERSION: u32 = 1;
 
-pub const GREATEST_ROAD: u32 = 8000;
+pub const SECOND_VERSION: u32 = 2;
+
+// The length of a road in metres: of version 1, and of any that the lister, the preview and the van's marking take; and of version 2.
+pub const GREATEST_SHORT_ROAD: u32 = 8000;
+
+pub const GREATEST_LONG_ROAD: u32 = 100000;
+
+// How many stations such roads have.
+pub const SHORT_STATIONS: usize = GREATEST_SHORT_ROAD as usize + 1;
+
+pub const LONG_STATIONS: usize = GREATEST_LONG_ROAD as usize + 1;
+
+// A road: its decision purposes begin at 1; its start height in h-units, its number of curves and the length of one in metres; and
+// a grade, the road's or one that is handed over, in hundredths of a percent up or down.
+pub const FIRST_DECISION: u32 = 1;
 
 pub const LOWEST_START: i32 = -10000000;
 
@@ -111,12 +124,7 @@ pub const GREATEST_ANSWERED_LENGTH: u32 = 2000;
 pub const GREATEST_HEIGHT: u32 = 50000;
 
 // A list of heights or marks.
-pub const GREATEST_LIST: usize = 8001;
-
-// The longest road that is marked, and so listed, in metres, and how many stations it has.
-pub const GREATEST_MARKED_ROAD: u32 = 8000;
-
-pub const MARKED_STATIONS: usize = GREATEST_MARKED_ROAD as usize + 1;
+pub const GREATEST_LIST: usize = 100001;
 
 // The farthest distance that is looked at, in metres.
 pub const GREATEST_FARTHEST: u32 = 8000;

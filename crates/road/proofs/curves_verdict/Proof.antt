@@ -33,7 +33,7 @@ loop-holds : tie.Need-loop-holds Inv-loop μ-loop
 loop-holds c =
     let road = c .before .args .t1 in
     let from : ℤ → Verdict = λ g. curvesVerdict (road .length) record { pvi = 0; length = 0; «grade_out» = g } (curvesOf road) in
-    (search needs, sym (ap from (got w16 (road .«first_grade») (c .struct-told .given .1 .1 .1 .1 .0 .1))))
+    (search needs, sym (ap from (got w16 (road .«first_grade») (c .struct-told .given .1 .1 .1 .1 .1 .0 .1))))
 
 mul-c : tie.Need-mul-c Inv-loop μ-loop
 mul-c c = search needs

@@ -1,5 +1,6 @@
 -- `numbers_verdict` meets its contract: each `return` rewrites the definition by the tests that led to it. A signed field is read
 -- as its bits, which give the number back since it fits.
+use Prim.Native.Nat.{ℕ}
 use mathlib.Core.Path.{_≡_, sym, _∙_}
 use borrow.Author.Needs.{needs}
 use mir.Syntax.{w16, w32}
@@ -38,24 +39,28 @@ returns-2 c =
       sym (c .before .outside2 .ensures) ∙ c .if2 .taken,
     )
 
+longest-road-requires : tie.Need-longest-road-requires
+longest-road-requires c κs = search needs
+
 outside-requires-3 : tie.Need-outside-requires-3
 outside-requires-3 c κs = search needs
 
 returns-3 : tie.Need-returns-3
 unfolding numbersVerdict
 returns-3 c =
-    let purpose = c .before .before in
+    let purpose = c .before .before .before in
     let speed = purpose .before .before .before in
     simp (
       sym (speed .before .outside .ensures) ∙ speed .if1 .left,
       sym (purpose .before .outside2 .ensures) ∙ purpose .if2 .left,
+      sym (c .before .before .longest-road .ensures),
       sym (c .before .outside3 .ensures) ∙ c .if3 .taken,
     )
 
 -- past the test of the length
 module _ (c : tie.Else3) where
   abbrev purpose : tie.Else2
-  purpose = c .before .before
+  purpose = c .before .before .before
 
   abbrev speed : tie.Else1
   speed = purpose .before .before .before
@@ -63,22 +68,26 @@ module _ (c : tie.Else3) where
   abbrev given : Road
   given = speed .before .before .before .args .road
 
-  past-length : numbersVerdict given ≡ fault (outsideℤ lowestStart highestStart (given .«start_height»)) startRefused
+  abbrev most : ℕ
+  most = speed .before .before .before .args .most
+
+  past-length : numbersVerdict most given ≡ fault (outsideℤ lowestStart highestStart (given .«start_height»)) startRefused
       (fault (gradeOutside (given .«first_grade»)) gradeRefused Accepted)
   unfolding numbersVerdict
   past-length =
       simp (
         sym (speed .before .outside .ensures) ∙ speed .if1 .left,
         sym (purpose .before .outside2 .ensures) ∙ purpose .if2 .left,
+        sym (c .before .before .longest-road .ensures),
         sym (c .before .outside3 .ensures) ∙ c .if3 .left,
       )
 
 returns-4 : tie.Need-returns-4
-returns-4 c = sym (past-length (c .before .before) ∙ simp (rw (got w32 _ (c .before .struct-told .given .1 .1 .1 .0 .1)) at (c .if4 .taken)))
+returns-4 c = sym (past-length (c .before .before) ∙ simp (rw (got w32 _ (c .before .struct-told .given .1 .1 .1 .1 .0 .1)) at (c .if4 .taken)))
 
 -- the first grade, as it is cast
 first-grade : (c : tie.After-struct-told2) → Widens w16 w32 (given (c .before .before .before .before) .«first_grade»)
-first-grade c = widens w16 w32 _ (c .struct-told2 .given .1 .1 .1 .1 .0 .1) tt
+first-grade c = widens w16 w32 _ (c .struct-told2 .given .1 .1 .1 .1 .1 .0 .1) tt
 
 cast-grade : tie.Need-cast-grade
 cast-grade c = first-grade c .0
@@ -87,13 +96,13 @@ grade-outside-requires : tie.Need-grade-outside-requires
 grade-outside-requires c κs = search needs
 
 -- past the test of the start height, with what the call told of the grade
-past-start : (c : tie.After-grade-outside) → let road = given (c .before .before .before .before .before) in
-    numbersVerdict road ≡ fault (c .grade-outside .result) gradeRefused Accepted
+past-start : (c : tie.After-grade-outside) → let length = c .before .before .before .before .before in
+    numbersVerdict (most length) (given length) ≡ fault (c .grade-outside .result) gradeRefused Accepted
 past-start c =
     let start = c .before .before .before in
     past-length (start .before .before)
     ∙ simp (
-      rw (got w32 _ (start .before .struct-told .given .1 .1 .1 .0 .1)) at (start .if4 .left),
+      rw (got w32 _ (start .before .struct-told .given .1 .1 .1 .1 .0 .1)) at (start .if4 .left),
       sym (rw (first-grade (c .before) .1) at (c .grade-outside .ensures)),
     )
 
@@ -113,6 +122,7 @@ numbers-verdict-spec =
     cast-purpose
     outside-requires-2
     returns-2
+    longest-road-requires
     outside-requires-3
     returns-3
     returns-4
