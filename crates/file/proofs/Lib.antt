@@ -1,2 +1,3 @@
 pub mod Overlong
 pub mod Sound
+pub mod Stations

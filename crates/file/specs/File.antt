@@ -1,12 +1,15 @@
--- docs/RULES.md, "Road file": where each number stands. All numbers are little-endian, signed ones two's complement.
+-- docs/RULES.md, "Road file": where each number stands, in a file of either version. All numbers are little-endian, signed ones
+-- two's complement.
 use Prim.Native.Nat.{ℕ, zero, suc, _+_, _*_}
+use mathlib.Core.Bool.{cond}
 use mathlib.Core.List.{List, [], _∷_}
+use lib.Dec.{eqb}
 use lib.IntN.{pos}
 use lib.ListN.{getD, replicate}
 use mir.Syntax.{w16, w32}
 use mir.Val.{toZ}
 use Rattle.whole.specs.Fill.{filled}
-use Rattle.terms.specs.Limits.{greatestCurveCount}
+use Rattle.terms.specs.Limits.{secondVersion, greatestCurveCount}
 use Rattle.road.specs.declared.Curve.{Curve}
 use Rattle.road.specs.declared.Road.{Road}
 use Rattle.road.specs.Road.{noCurve}
@@ -21,48 +24,57 @@ unfoldable pub numberAt : List ℕ → ℕ → ℕ → ℕ
 numberAt s k zero = 0
 numberAt s k (suc w) = byteAt s k + 256 * numberAt s (k + 1) w
 
+-- ---- the layout of a version
+-- the bytes of a station, which are those of N and of each PVI: 4 in version 2, else 2
+unfoldable pub stationBytes : ℕ → ℕ
+stationBytes version = cond (eqb version secondVersion) 4 2
+
+-- the bytes of a record: a station, the curve's length and its grade out
+abbrev pub recordLength : ℕ → ℕ
+recordLength version = stationBytes version + 4
+
+-- the length of a file with n curves: 14 bytes and a station of the header, and the records
+abbrev pub fileLength : ℕ → ℕ → ℕ
+fileLength version n = stationBytes version + 14 + recordLength version * n
+
 -- ---- the road in a file
--- how a file begins: the letters VCP, and the version
+-- the letters VCP, with which a file begins
 abbrev pub letters : List ℕ
 letters = 86 ∷ 67 ∷ 80 ∷ []
 
-abbrev pub version : ℕ
-version = 1
+-- the version, at byte 3
+abbrev pub versionIn : List ℕ → ℕ
+versionIn s = numberAt s 3 2
 
--- the bytes of a record
-abbrev pub recordLength : ℕ
-recordLength = 6
-
--- the length of a file with n curves: 16 bytes of the header, and the records
-abbrev pub fileLength : ℕ → ℕ
-fileLength n = 16 + recordLength * n
-
--- the number of curves that a file names
+-- the number of curves, the last byte of the header
 abbrev pub curveCount : List ℕ → ℕ
-curveCount s = byteAt s 15
+curveCount s = byteAt s (stationBytes (versionIn s) + 13)
 
--- record k, which begins where a file with k curves ends: PVI, length, grade out
-unfoldable pub curveAt : List ℕ → ℕ → Curve
-curveAt s k =
-    let at = fileLength k in
-    record { pvi = numberAt s at 2; length = numberAt s (at + 2) 2; «grade_out» = toZ w16 (numberAt s (at + 4) 2) }
+-- record k of a file of this version, which begins where a file with k curves ends: PVI, length, grade out
+unfoldable pub curveAt : ℕ → List ℕ → ℕ → Curve
+curveAt version s k =
+    let w = stationBytes version in
+    let at = fileLength version k in
+    record { pvi = numberAt s at w; length = numberAt s (at + w) 2; «grade_out» = toZ w16 (numberAt s (at + w + 2) 2) }
 
--- speed at byte 5, purpose at 6, N at 7, start height at 9, first grade at 13, the number of curves n at 15, then n records;
--- the other curve places are zero
+-- speed at byte 5, purpose at 6, N at 7, and behind it start height, first grade and the number of curves n, then n records; the
+-- other curve places are zero
 unfoldable pub roadIn : List ℕ → Road
-roadIn s = record {
+roadIn s = let w = stationBytes (versionIn s) in record {
+  version = versionIn s;
   speed = byteAt s 5;
   purpose = byteAt s 6;
-  length = numberAt s 7 2;
-  «start_height» = toZ w32 (numberAt s 9 4);
-  «first_grade» = toZ w16 (numberAt s 13 2);
+  length = numberAt s 7 w;
+  «start_height» = toZ w32 (numberAt s (w + 7) 4);
+  «first_grade» = toZ w16 (numberAt s (w + 11) 2);
   count = curveCount s;
-  curves = filled (curveAt s) 0 (curveCount s) (replicate greatestCurveCount noCurve);
+  curves = filled (curveAt (versionIn s) s) 0 (curveCount s) (replicate greatestCurveCount noCurve);
 }
 
 -- the road of a refused file: all numbers zero
 unfoldable pub noRoad : Road
 noRoad = record {
+  version = 0;
   speed = 0;
   purpose = 0;
   length = 0;

@@ -1,7 +1,7 @@
 -- `curves_in` meets its contract: one store a turn. The invariant: the first k places are filled with the records. The measure is
 -- what is left of the records.
 use mathlib.Core.Path.{_≡_, refl}
-use Prim.Native.Nat.{_≤_, _-_}
+use Prim.Native.Nat.{_≤_, _-_, _+_}
 use borrow.Author.Needs.{needs}
 use native.Mathlib.Omega.{arith}
 use lib.ListN.{replicate}
@@ -10,21 +10,24 @@ use Rattle.whole.proofs.Fill.{filled-next}
 use Rattle.terms.specs.Limits.{greatestCurveCount}
 use Rattle.road.specs.Road.{noCurve}
 use Rattle.file.specs.File.{curveAt}
+use Rattle.file.proofs.Stations.{records-within}
 use Rattle.file.proofs.curves_in.Statement.{statement}
 use Rattle.file.proofs.curves_in.Tie as tie
 
 abbrev Inv-loop : tie.InvT-loop
-Inv-loop file n curves₀ k₀ curves k = (k ≤ n) × (curves ≡ filled (curveAt file) 0 k (replicate greatestCurveCount noCurve))
+Inv-loop file version n curves₀ k₀ curves k = (k ≤ n) × (curves ≡ filled (curveAt version file) 0 k (replicate greatestCurveCount noCurve))
 
 abbrev μ-loop : tie.MeasureT-loop
-μ-loop file n curves₀ k₀ curves k = n - k
+μ-loop file version n curves₀ k₀ curves k = n - k
 
 loop-holds : tie.Need-loop-holds Inv-loop μ-loop
 unfolding filled
 loop-holds c = (omega arith, refl)
 
 curve-at-requires : tie.Need-curve-at-requires Inv-loop μ-loop
-curve-at-requires c κs = search needs
+curve-at-requires c κs =
+    let a = c .before .before .before .args in
+    omega (arith, records-within (a .version) (c .before .loop .k + 1) (a .n) (omega arith))
 
 cast-curves : tie.Need-cast-curves Inv-loop μ-loop
 cast-curves c = search needs
