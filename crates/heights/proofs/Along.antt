@@ -15,7 +15,7 @@ use Rattle.whole.specs.Fractions.{whole}
 use Rattle.whole.proofs.Fill.{filled-then}
 use Rattle.whole.proofs.Floor.{floor-plus, floor-whole, floor-size-by}
 use Rattle.whole.proofs.Range.{Reads, knownR, add-size, neg-size, mul-size, range-size}
-use Rattle.terms.specs.Limits.{highestStart, greatestGrade, greatestRoad}
+use Rattle.terms.specs.Limits.{highestStart, greatestGrade, greatestLongRoad}
 use Rattle.road.specs.declared.Curve.{Curve}
 use Rattle.road.specs.Road.{begin, end, half}
 use Rattle.road.specs.Order.{CurveInRange}
@@ -26,7 +26,7 @@ use Rattle.heights.specs.Walk.{WalkInRange, CurveAhead, CurveHere, heigh
 -- ---- sizes
 -- how far from zero a walk on a road can stand
 abbrev heightBound : ℕ
-heightBound = natAbs highestStart + greatestGrade * greatestRoad
+heightBound = natAbs highestStart + greatestGrade * greatestLongRoad
 
 pub grade-out-size : {c : Curve} → CurveInRange c → natAbs (c .«grade_out») ≤ greatestGrade
 grade-out-size {c} r = range-size {a = greatestGrade} (c .«grade_out») (omega arith) (r .grade-low) (r .grade-high)
@@ -36,7 +36,7 @@ pub record WalkRead (at : Walk) : Type 0 where
   pub grade : Reads (toZ w16 (ofZ w16 (at .grade))) (at .grade)
   pub height : Reads (toZ w32 (ofZ w32 (at .height))) (at .height)
 
-abbrev pub walk-read : {at : Walk} → WalkInRange at → at .station ≤ greatestRoad → WalkRead at
+abbrev pub walk-read : {at : Walk} → WalkInRange at → at .station ≤ greatestLongRoad → WalkRead at
 walk-read {at} w l = record {
   grade = knownR w16 (at .grade) greatestGrade (w .grade-size);
   height = knownR w32 (at .height) heightBound (omega (arith, w .height-size));

@@ -16,7 +16,7 @@ use Rattle.whole.proofs.Floor.{floor-whole}
 use Rattle.whole.proofs.Int.{var, reps, eq-by}
 use Rattle.whole.proofs.Range.{range-size}
 use Rattle.whole.proofs.Table.{Each}
-use Rattle.terms.specs.Limits.{lowestStart, greatestGrade, greatestRoad}
+use Rattle.terms.specs.Limits.{lowestStart, greatestGrade, greatestLongRoad}
 use Rattle.road.specs.declared.Curve.{Curve}
 use Rattle.road.specs.declared.Road.{Road}
 use Rattle.road.specs.Road.{begin, end, curvesOf}
@@ -57,13 +57,13 @@ stored-start r =
 abbrev pub start : Road → Walk
 start r = record { station = 0; height = r .«start_height»; grade = r .«first_grade» }
 
-pub walk-in-range-start : (r : Road) → SoundRoad r → WalkInRange (start r)
+pub walk-in-range-start : (r : Road) → SoundRoad greatestLongRoad r → WalkInRange (start r)
 walk-in-range-start r s = record {
   height-size = range-size {a = natAbs lowestStart} (r .«start_height») (omega arith) (s .start-low) (s .start-high);
   grade-size = range-size {a = greatestGrade} (r .«first_grade») (omega arith) (s .grade-low) (s .grade-high);
 }
 
-pub walked-none : (r : Road) (first : List ℤ) → SoundRoad r → Walked r 0 (start r) first first
+pub walked-none : (r : Road) (first : List ℤ) → SoundRoad greatestLongRoad r → Walked r 0 (start r) first first
 unfolding exactHeight
 walked-none r first s = record {
   in-use = omega arith;
@@ -76,7 +76,7 @@ walked-none r first s = record {
 }
 
 -- ---- one curve more
-module _ (r : Road) (i : ℕ) (at : Walk) (c : Curve) (first list : List ℤ) (w : Walked r i at first list) (long : r .length ≤ greatestRoad)
+module _ (r : Road) (i : ℕ) (at : Walk) (c : Curve) (first list : List ℤ) (w : Walked r i at first list) (long : r .length ≤ greatestLongRoad)
     (next : drop i (curvesOf r) ≡ c ∷ drop (i + 1) (curvesOf r)) where
   next-in-order : Placed (r .length) (at .station) c × InOrder (r .length) (end c) (drop (i + 1) (curvesOf r))
   next-in-order = rw next at (w .in-order)

@@ -6,7 +6,7 @@ use mathlib.Core.Path.{_≡_}
 use lib.IntN.{ℤ, natAbs}
 use Rattle.whole.specs.Floor.{floor}
 use Rattle.whole.specs.Fractions.{Frac}
-use Rattle.terms.specs.Limits.{highestStart, greatestGrade, greatestRoad}
+use Rattle.terms.specs.Limits.{highestStart, greatestGrade, greatestLongRoad}
 use Rattle.road.specs.declared.Curve.{Curve}
 use Rattle.road.specs.Road.{begin, end}
 use Rattle.road.specs.Order.{Placed, CurveInRange}
@@ -22,20 +22,20 @@ pub record WalkInRange (at : Walk) : Type 0 where
 pub record StraightTo (at : Walk) (x : ℕ) : Type 0 where
   pub walk : WalkInRange at
   pub ahead : at .station ≤ x
-  pub on-road : x ≤ greatestRoad
+  pub on-road : x ≤ greatestLongRoad
 
 -- a curve lies ahead, on the road
 pub record CurveAhead (at : Walk) (c : Curve) : Type 0 where
   pub walk : WalkInRange at
   pub curve : CurveInRange c
-  pub placed : Placed greatestRoad (at .station) c
+  pub placed : Placed greatestLongRoad (at .station) c
 
 -- a curve on the road begins here
 pub record CurveHere (at : Walk) (c : Curve) : Type 0 where
   pub walk : WalkInRange at
   pub curve : CurveInRange c
   pub here : at .station + c .length ≡ end c
-  pub on-road : end c ≤ greatestRoad
+  pub on-road : end c ≤ greatestLongRoad
 
 -- the height at station x: on along the straight; on a curve that begins here; with the curves cs ahead
 abbrev pub heightAlong : Walk → ℕ → ℤ

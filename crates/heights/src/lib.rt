@@ -5,7 +5,7 @@ ghost use mathlib.Core.Path.{_≡_};
 ghost use lib.ListN.{length};
 ghost use Rattle.whole.specs.Fill.{filled};
 ghost use Rattle.whole.specs.Floor.{floor};
-ghost use Rattle.terms.specs.Limits.{greatestRoad};
+ghost use Rattle.terms.specs.Limits.{greatestLongRoad};
 ghost use Rattle.road.specs.Road.{end, roadVerdict};
 ghost use Rattle.heights.specs.Profile.{straight, onCurve, storedHeight};
 ghost use Rattle.heights.specs.Walk.{WalkInRange, StraightTo, CurveAhead, CurveHere, heightAlong, heightOver, exactAhead, along, over, past};
@@ -24,7 +24,7 @@ struct Walk {
 
 // The height `d` metres on along the straight.
 fn on_straight(at: Walk, d: u32) -> i32
-    requires { ⌜ WalkInRange at × (at .station + d ≤ greatestRoad) ⌝ }
+    requires { ⌜ WalkInRange at × (at .station + d ≤ greatestLongRoad) ⌝ }
     ensures { λ r. ⌜ r ≡ straight (at .height) (at .grade) d ⌝ }
 {
     at.height + at.grade as i32 * d as i32
@@ -132,7 +132,7 @@ pub fn heights(road: Road, list: &mut [i32]) -> Answer
     ensures answer { λ r. ⌜ r ≡ heightsAnswer road (now (list .entry)) ⌝ }
     ensures list { λ _. ⌜ now (list .exit) ≡ heightsList road (now (list .entry)) ⌝ }
 {
-    if let Verdict::Fault(number) = road::verdict(road) {
+    if let Verdict::Fault(number) = road::verdict(road, terms::GREATEST_LONG_ROAD) {
         return Answer::Refused(number);
     }
     let count = road.length + 1;

@@ -8,6 +8,7 @@ use native.Mathlib.Omega.{arith}
 use lib.ListN.{length, drop, getD, set, length-set}
 use Rattle.whole.proofs.Fill.{filled-length}
 use Rattle.whole.proofs.Range.{same-by}
+use Rattle.terms.specs.Limits.{greatestLongRoad}
 use Rattle.road.specs.Road.{noCurve, curvesOf}
 use Rattle.road.proofs.Accepted.{SoundRoad, accepted-road}
 use Rattle.road.proofs.Places.{curve-places, next-curve, place-in-use}
@@ -24,7 +25,7 @@ abbrev μ-loop : tie.MeasureT-loop
 
 -- the road
 module _ (s : tie.Start Inv-loop μ-loop) where
-  sound : SoundRoad (s .args .t1)
+  sound : SoundRoad greatestLongRoad (s .args .t1)
   sound = accepted-road (s .args .t1) (s .pre .0)
 
   in-places : s .args .t1 .count ≤ length (s .args .t1 .curves)

@@ -6,14 +6,14 @@ use mir.Syntax.{w32}
 use mir.Val.{toZ}
 use Rattle.whole.proofs.Range.{Reads, countR, fits-by, same-by, sizes}
 use Rattle.whole.proofs.Range.{reads as reading}
-use Rattle.terms.specs.Limits.{greatestRoad}
+use Rattle.terms.specs.Limits.{greatestLongRoad}
 use Rattle.heights.proofs.Along.{WalkRead, walk-read}
 use Rattle.heights.proofs.on_straight.Statement.{statement}
 use Rattle.heights.proofs.on_straight.Tie as tie
 
 -- what is read: the walk and the metres
 abbrev read : (s : tie.Start) → WalkRead (s .args .at) × Reads (toZ w32 (s .args .d)) (pos (s .args .d))
-read s = (walk-read (s .pre .0) (omega arith), countR w32 (s .args .d) greatestRoad (omega arith))
+read s = (walk-read (s .pre .0) (omega arith), countR w32 (s .args .d) greatestLongRoad (omega arith))
 
 cast-result : tie.Need-cast-result
 cast-result c = let r = read (c .before .before) in fits-by (search sizes depth 16) tt
