@@ -1,5 +1,5 @@
 -- The round trips of a road file (docs/RULES.md, "Road file"): a file that is read and written again has the same bytes, and a road
--- that is written and read again is the same road. They speak of the definitions that the contracts of reading and writing cite.
+-- that is written and read again is the same road, in either version. They speak of the definitions that the contracts of reading and writing cite.
 use Prim.Native.Nat.{ℕ, _≤_, _<_}
 use mathlib.Core.List.{List}
 use mathlib.Core.Path.{_≡_}
@@ -41,6 +41,7 @@ ReadThenWritten =
 -- ---- written, then read
 -- two roads are the same: all their numbers and their first n curves are
 pub record SameRoad (a b : Road) : Type 0 where
+  pub version : a .version ≡ b .version
   pub speed : a .speed ≡ b .speed
   pub purpose : a .purpose ≡ b .purpose
   pub length : a .length ≡ b .length
@@ -52,6 +53,7 @@ pub record SameRoad (a b : Road) : Type 0 where
 -- the same road with zero in its unused curve places, as reading makes it
 unfoldable pub cleared : Road → Road
 cleared r = record {
+  version = r .version;
   speed = r .speed;
   purpose = r .purpose;
   length = r .length;
@@ -63,10 +65,10 @@ cleared r = record {
 
 -- what is said of a road and a buffer
 pub record ReadBack (r : Road) (buffer : List ℕ) : Type 0 where
-  -- writing answers the length of a file with its number of curves
-  pub answer : writeAnswer r buffer ≡ Number (fileLength (r .count))
+  -- writing answers the length of a file of its version with its number of curves
+  pub answer : writeAnswer r buffer ≡ Number (fileLength (r .version) (r .count))
   -- reading so many bytes of the buffer accepts them, and gives the road with zero in its unused curve places,
-  pub read : readRoad (take (fileLength (r .count)) (writeList r buffer)) ≡ record { verdict = Accepted; road = cleared r }
+  pub read : readRoad (take (fileLength (r .version) (r .count)) (writeList r buffer)) ≡ record { verdict = Accepted; road = cleared r }
   -- which is the same road
   pub same : SameRoad (cleared r) r
 
@@ -79,5 +81,5 @@ WrittenThenRead =
     -- and that is accepted,
     → roadVerdict r ≡ Accepted
     -- and every buffer with room for its file
-    → fileLength (r .count) ≤ length buffer
+    → fileLength (r .version) (r .count) ≤ length buffer
     → ReadBack r buffer

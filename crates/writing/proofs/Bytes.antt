@@ -1,17 +1,27 @@
 -- How many bytes a number, a header, a record and a file have.
 use mathlib.Core.Path.{_≡_, refl, ap}
-use Prim.Native.Nat.{ℕ, zero, suc, _/_}
+use Prim.Native.Nat.{ℕ, zero, suc, _+_, _/_}
 use native.Mathlib.Omega.{arith}
-use lib.ListN.{length, length-append}
+use lib.ListN.{length, getD, length-append}
+use Rattle.road.specs.declared.Curve.{Curve}
 use Rattle.road.specs.declared.Road.{Road}
-use Rattle.file.specs.File.{fileLength}
-use Rattle.writing.specs.Bytes.{bytesOf, headerBytes, curveBytes, fileUpTo}
+use Rattle.road.specs.Road.{noCurve}
+use Rattle.file.specs.File.{stationBytes, recordLength, fileLength}
+use Rattle.writing.specs.Bytes.{bytesOf, frontBytes, headerBytes, curveBytes, fileUpTo}
 
 pub bytes-length : (w n : ℕ) → length (bytesOf w n) ≡ w
 bytes-length zero n = refl
 bytes-length (suc w) n = ap suc (bytes-length w (n / 256))
 
-pub front-length : (r : Road) (n : ℕ) → length (fileUpTo r n) ≡ fileLength n
-unfolding fileUpTo headerBytes curveBytes
-front-length r zero = refl
-front-length r (suc n) = simp length-append (omega (arith, front-length r n))
+pub record-length : (version : ℕ) (c : Curve) → length (curveBytes version c) ≡ recordLength version
+unfolding curveBytes
+record-length version c = simp length-append (omega (arith, bytes-length (stationBytes version) (c .pvi)))
+
+pub header-front-length : (r : Road) → length (frontBytes r) ≡ stationBytes (r .version) + 7
+header-front-length r = omega (arith, bytes-length (stationBytes (r .version)) (r .length))
+
+pub front-length : (r : Road) (n : ℕ) → length (fileUpTo r n) ≡ fileLength (r .version) n
+unfolding fileUpTo headerBytes
+front-length r zero = simp length-append (omega (arith, bytes-length (stationBytes (r .version)) (r .length)))
+front-length r (suc n) =
+    simp length-append (omega (arith, front-length r n, record-length (r .version) (getD (r .curves) n noCurve)))

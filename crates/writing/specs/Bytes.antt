@@ -7,30 +7,32 @@ use mir.Val.{ofZ}
 use Rattle.road.specs.declared.Curve.{Curve}
 use Rattle.road.specs.declared.Road.{Road}
 use Rattle.road.specs.Road.{noCurve}
-use Rattle.file.specs.File.{letters, version}
+use Rattle.file.specs.File.{letters, stationBytes}
 
 -- the w bytes of a number, lowest first
 abbrev pub bytesOf : ℕ → ℕ → List ℕ
 bytesOf zero n = []
 bytesOf (suc w) n = n % 256 ∷ bytesOf w (n / 256)
 
--- bytes 0 to 8: the letters, the version, speed, purpose and N
+-- the front of the header: the letters, the version, speed, purpose and N
 abbrev pub frontBytes : Road → List ℕ
-frontBytes r = letters ++ bytesOf 2 version ++ bytesOf 1 (r .speed) ++ bytesOf 1 (r .purpose) ++ bytesOf 2 (r .length)
+frontBytes r =
+    letters ++ bytesOf 2 (r .version) ++ bytesOf 1 (r .speed) ++ bytesOf 1 (r .purpose) ++ bytesOf (stationBytes (r .version)) (r .length)
 
--- bytes 0 to 15: behind those the start height, the first grade and the number of curves
+-- the header: behind those the start height, the first grade and the number of curves
 unfoldable pub headerBytes : Road → List ℕ
 headerBytes r =
     frontBytes r ++ bytesOf 4 (ofZ w32 (r .«start_height»)) ++ bytesOf 2 (ofZ w16 (r .«first_grade»)) ++ bytesOf 1 (r .count)
 
--- a record of 6 bytes
-unfoldable pub curveBytes : Curve → List ℕ
-curveBytes c = bytesOf 2 (c .pvi) ++ bytesOf 2 (c .length) ++ bytesOf 2 (ofZ w16 (c .«grade_out»))
+-- a record in a file of this version
+unfoldable pub curveBytes : ℕ → Curve → List ℕ
+curveBytes version c =
+    bytesOf (stationBytes version) (c .pvi) ++ bytesOf 2 (c .length) ++ bytesOf 2 (ofZ w16 (c .«grade_out»))
 
 -- the header and the first n records
 unfoldable pub fileUpTo : Road → ℕ → List ℕ
 fileUpTo r zero = headerBytes r
-fileUpTo r (suc n) = fileUpTo r n ++ curveBytes (getD (r .curves) n noCurve)
+fileUpTo r (suc n) = fileUpTo r n ++ curveBytes (r .version) (getD (r .curves) n noCurve)
 
 -- the whole file
 abbrev pub fileBytes : Road → List ℕ

@@ -10,7 +10,7 @@ use Rattle.writing.specs.Bytes.{fileBytes}
 
 -- writing: refused as the road is, then 14; else how many bytes are written
 unfoldable pub writeAnswer : Road → List ℕ → Answer
-writeAnswer r buffer = unless (roadVerdict r) (roomFor (fileLength (r .count)) buffer)
+writeAnswer r buffer = unless (roadVerdict r) (roomFor (fileLength (r .version) (r .count)) buffer)
 
 -- the file's bytes from byte 0 on, bytes beyond stay; where it is refused all stay
 unfoldable pub writeList : Road → List ℕ → List ℕ

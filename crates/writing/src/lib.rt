@@ -52,19 +52,20 @@ const LETTERS: u32 = 0x504356;
 
 // Stores the first numbers of a road, from place 0 on.
 fn put_front(road: Road, buffer: &mut [u8]) -> usize
-    requires { ⌜ fileLength 0 ≤ length (now buffer) ⌝ }
+    requires { ⌜ fileLength (road .version) 0 ≤ length (now buffer) ⌝ }
     ensures { λ r. ⌜ Wrote (frontBytes road) 0 r (now (buffer .entry)) (now (buffer .exit)) ⌝ }
 {
     let version = put_number(LETTERS, 3, buffer, 0);
-    let speed = put_number(file::VERSION, 2, buffer, version);
+    let speed = put_number(road.version, 2, buffer, version);
     let purpose = put_number(road.speed as u32, 1, buffer, speed);
     let length = put_number(road.purpose as u32, 1, buffer, purpose);
-    put_number(road.length, 2, buffer, length)
+    let station = file::station_bytes(road.version);
+    put_number(road.length, station, buffer, length)
 }
 
 // Stores the header of a road, from place 0 on.
 fn put_header(road: Road, buffer: &mut [u8]) -> usize
-    requires { ⌜ fileLength 0 ≤ length (now buffer) ⌝ }
+    requires { ⌜ fileLength (road .version) 0 ≤ length (now buffer) ⌝ }
     ensures { λ r. ⌜ Wrote (headerBytes road) 0 r (now (buffer .entry)) (now (buffer .exit)) ⌝ }
 {
     let start = put_front(road, buffer);
@@ -73,25 +74,26 @@ fn put_header(road: Road, buffer: &mut [u8]) -> usize
     put_number(road.count as u32, 1, buffer, count)
 }
 
-// Stores the record of a curve from place `at` on.
-fn put_curve(curve: Curve, buffer: &mut [u8], at: usize) -> usize
-    requires { ⌜ at + recordLength ≤ length (now buffer) ⌝ }
-    ensures { λ r. ⌜ Wrote (curveBytes curve) at r (now (buffer .entry)) (now (buffer .exit)) ⌝ }
+// Stores the record of a curve in a file of this version, from place `at` on.
+fn put_curve(curve: Curve, version: u32, buffer: &mut [u8], at: usize) -> usize
+    requires { ⌜ at + recordLength version ≤ length (now buffer) ⌝ }
+    ensures { λ r. ⌜ Wrote (curveBytes version curve) at r (now (buffer .entry)) (now (buffer .exit)) ⌝ }
 {
-    let length = put_number(curve.pvi, 2, buffer, at);
+    let station = file::station_bytes(version);
+    let length = put_number(curve.pvi, station, buffer, at);
     let grade = put_number(curve.length as u32, 2, buffer, length);
     put_number(bits16(curve.grade_out), 2, buffer, grade)
 }
 
 // Stores the file of a road.
 fn put_file(road: Road, buffer: &mut [u8]) -> usize
-    requires { ⌜ (road .count ≤ greatestCurveCount) × (fileLength (road .count) ≤ length (now buffer)) ⌝ }
+    requires { ⌜ (road .count ≤ greatestCurveCount) × (fileLength (road .version) (road .count) ≤ length (now buffer)) ⌝ }
     ensures { λ r. ⌜ Wrote (fileBytes road) 0 r (now (buffer .entry)) (now (buffer .exit)) ⌝ }
 {
     let mut next = put_header(road, buffer);
     for k in 0..road.count {
         let curve = road.curves[k as usize];
-        next = put_curve(curve, buffer, next);
+        next = put_curve(curve, road.version, buffer, next);
     }
     next
 }
@@ -102,11 +104,11 @@ pub fn write(road: Road, buffer: &mut [u8]) -> Answer
     ensures answer { λ r. ⌜ r ≡ writeAnswer road (now (buffer .entry)) ⌝ }
     ensures list { λ _. ⌜ now (buffer .exit) ≡ writeList road (now (buffer .entry)) ⌝ }
 {
-    let verdict = road::verdict(road);
+    let verdict = road::verdict(road, terms::GREATEST_LONG_ROAD);
     if let Verdict::Fault(number) = verdict {
         return Answer::Refused(number);
     }
-    let total = file::file_length(road.count);
+    let total = file::file_length(road.version, road.count);
     if buffer.len() < total {
         return Answer::Refused(terms::ROOM_REFUSED);
     }

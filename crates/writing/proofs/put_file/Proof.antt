@@ -2,13 +2,14 @@
 -- the header and k records are stored by now. The measure is what is left of the records.
 use mathlib.Core.Path.{_≡_}
 use mathlib.Core.List.{List}
-use Prim.Native.Nat.{ℕ, _-_, _≤_}
+use Prim.Native.Nat.{ℕ, _+_, _-_, _≤_}
 use native.Mathlib.Numerals.{add-one}
 use native.Mathlib.Omega.{arith}
 use borrow.Author.Needs.{needs}
 use denote.Ref.{now}
 use Rattle.whole.specs.Placed.{Wrote}
 use Rattle.whole.proofs.Placed.{wrote-join, wrote-length}
+use Rattle.file.proofs.Stations.{records-within}
 use Rattle.writing.specs.Bytes.{headerBytes, fileUpTo}
 use Rattle.writing.proofs.Bytes.{front-length}
 use Rattle.writing.proofs.put_file.Statement.{statement}
@@ -47,7 +48,9 @@ put-curve-requires c κs =
     let top = c .before .before .before in
     let start = top .before .before .before .before .before .before in
     let s = stored top in
-    omega (arith, wrote-length s, front-length (start .args .t1) (top .loop .k))
+    let road = start .args .t1 in
+    let fits = records-within (road .version) (top .loop .k + 1) (road .count) (omega arith) in
+    omega (arith, wrote-length s, front-length road (top .loop .k), fits)
 
 add-k : tie.Need-add-k Inv-loop μ-loop
 add-k c = search needs

@@ -22,6 +22,9 @@ cast-put-number-2 c = search needs
 put-number-requires-4 : tie.Need-put-number-requires-4
 put-number-requires-4 c κs = search needs
 
+station-bytes-requires : tie.Need-station-bytes-requires
+station-bytes-requires c κs = search needs
+
 put-number-requires-5 : tie.Need-put-number-requires-5
 put-number-requires-5 c κs = search needs
 
@@ -31,13 +34,13 @@ same-length c = search needs
 returns : tie.Need-returns
 returns c =
     let fifth = c .before .before in
-    let fourth = fifth .before .before .before .before in
+    let fourth = fifth .before .before .before .before .before in
     let third = fourth .before .before .before .before .before in
     let second = third .before .before .before .before .before in
     let first = second .before .before .before .before in
     let two = wrote-join (first .put-number .ensures) (second .put-number2 .ensures) in
     let four = wrote-join (wrote-join two (third .put-number3 .ensures)) (fourth .put-number4 .ensures) in
-    wrote-join four (fifth .put-number5 .ensures)
+    wrote-join four (rw (fifth .before .before .station-bytes .ensures) at (fifth .put-number5 .ensures))
 
 pub put-front-spec : {M : Type 1} → statement M
 put-front-spec =
@@ -49,6 +52,7 @@ put-front-spec =
     put-number-requires-3
     cast-put-number-2
     put-number-requires-4
+    station-bytes-requires
     put-number-requires-5
     same-length
     returns)

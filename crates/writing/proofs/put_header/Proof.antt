@@ -1,11 +1,15 @@
 -- `put_header` meets its contract: its numbers one behind the other, and each signed one fits its width.
-use mathlib.Core.Path.{ap, _∙_}
+use Prim.Native.Nat.{_+_}
+use mathlib.Core.Path.{_≡_, ap, _∙_}
+use native.Mathlib.Omega.{arith}
 use borrow.Author.Needs.{needs}
 use mir.Syntax.{w16, w32}
 use mir.Val.{SFits, ofZ}
 use Rattle.whole.proofs.Machine.{plain}
 use Rattle.whole.proofs.Placed.{wrote-join}
+use Rattle.file.specs.File.{stationBytes}
 use Rattle.writing.specs.Bytes.{headerBytes}
+use Rattle.writing.proofs.Bytes.{header-front-length}
 use Rattle.writing.proofs.put_header.Statement.{statement}
 use Rattle.writing.proofs.put_header.Tie as tie
 
@@ -15,23 +19,34 @@ fits c = search needs
 put-front-requires : tie.Need-put-front-requires
 put-front-requires c κs = search needs
 
+-- the place behind the front of the header
+front-size : (c : tie.After-put-front) → c .put-front .result ≡ stationBytes (c .before .before .before .args .road .version) + 7
+front-size c = omega (arith, c .put-front .ensures .behind, header-front-length (c .before .before .before .args .road))
+
 bits32-requires : tie.Need-bits32-requires
 bits32-requires c κs = search needs
 
 put-number-requires : tie.Need-put-number-requires
-put-number-requires c κs = search needs
+put-number-requires c κs = let size = front-size (c .before .before .before .before .before) in search needs
 
 bits16-requires : tie.Need-bits16-requires
 bits16-requires c κs = search needs
 
 put-number-requires-2 : tie.Need-put-number-requires-2
-put-number-requires-2 c κs = search needs
+put-number-requires-2 c κs =
+    let start = c .before .before .before .before .before in
+    let size = front-size (start .before .before .before .before .before .before) in
+    search needs
 
 cast-put-number : tie.Need-cast-put-number
 cast-put-number c = search needs
 
 put-number-requires-3 : tie.Need-put-number-requires-3
-put-number-requires-3 c κs = search needs
+put-number-requires-3 c κs =
+    let grade = c .before .before .before .before in
+    let start = grade .before .before .before .before .before .before in
+    let size = front-size (start .before .before .before .before .before .before) in
+    search needs
 
 same-length : tie.Need-same-length
 same-length c = search needs

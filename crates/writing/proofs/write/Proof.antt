@@ -9,6 +9,7 @@ use Rattle.terms.proofs.Laws.{ends-fault, ends-no-room, ends-filled}
 use Rattle.road.specs.Road.{roadVerdict}
 use Rattle.road.proofs.Accepted.{accepted-road}
 use Rattle.file.specs.File.{byteAt}
+use Rattle.file.proofs.Stations.{second-station, longest-file}
 use Rattle.writing.specs.Bytes.{fileBytes}
 use Rattle.writing.specs.Writing.{writeAnswer, writeList}
 use Rattle.writing.proofs.Bytes.{front-length}
@@ -46,7 +47,11 @@ put-file-requires : tie.Need-put-file-requires
 put-file-requires c κs = (accepted-road _ (accepted (c .before .before .before)) .count, omega (arith, c .before .before .file-length .ensures))
 
 cast-t10 : tie.Need-cast-t10
-cast-t10 c = search needs
+cast-t10 c =
+    let total = c .before .before .before .before .before in
+    let road = total .before .before .before .before .before .args .road in
+    let few = accepted-road road (accepted (total .before)) .count in
+    omega (arith, total .file-length .ensures, second-station, longest-file (road .version) (road .count) few)
 
 same-length : tie.Need-same-length
 same-length c = search needs
