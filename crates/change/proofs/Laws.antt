@@ -8,14 +8,14 @@ use borrow.Author.Tests.{lt-ltb, le-ltb}
 use lib.Dec.{leb, ltb, eqb, nltb→le, nleb→lt}
 use lib.ListN.{length, getD, set}
 use lib.Seq.{getD-take, set-getD, take-set-lt, length-take-le}
-use Rattle.terms.specs.Answers.{gradeOutside}
-use Rattle.terms.specs.Limits.{greatestCurve, greatestCurveCount}
-use Rattle.terms.specs.Refusals.{curveCountRefused, gradeRefused, curveLengthRefused, noCurveRefused}
+use Rattle.terms.specs.Answers.{outside, gradeOutside}
+use Rattle.terms.specs.Limits.{firstVersion, secondVersion, greatestLongRoad, greatestCurve, greatestCurveCount}
+use Rattle.terms.specs.Refusals.{versionRefused, curveCountRefused, gradeRefused, curveLengthRefused, noCurveRefused}
 use Rattle.terms.specs.declared.Verdict.the-variants.{Accepted, Fault}
-use Rattle.terms.proofs.Laws.{grade-inside, grade-not-outside, fault-not-accepted, fault-accepted, first-fault-accepted}
+use Rattle.terms.proofs.Laws.{grade-inside, grade-not-outside, fault-not-accepted, fault-accepted, first-fault-accepted, inside}
 use Rattle.road.specs.declared.Curve.{Curve}
 use Rattle.road.specs.declared.Road.{Road}
-use Rattle.road.specs.Road.{noCurve, startOf, curvesOf, curveVerdict, curvesVerdict, numbersVerdict, roadVerdict}
+use Rattle.road.specs.Road.{noCurve, startOf, curvesOf, curveVerdict, curvesVerdict, numbersVerdict, verdictUpTo, roadVerdict}
 use Rattle.change.specs.Change.{ofLength, withLength, changeVerdict}
 
 -- ---- the curves in use of the changed road
@@ -53,19 +53,21 @@ long-curves n before (c ∷ cs) (suc k) l over h e =
     let both = first-fault-accepted (curveVerdict n before c) _ e in
     rw (both .0) (long-curves n c cs k l over (omega arith) (both .1))
 
-numbers-stay : (r : Road) (k l : ℕ) → numbersVerdict (withLength r k l) ≡ numbersVerdict r
+numbers-stay : (most : ℕ) (r : Road) (k l : ℕ) → numbersVerdict most (withLength r k l) ≡ numbersVerdict most r
 unfolding numbersVerdict withLength
-numbers-stay r k l = refl
+numbers-stay most r k l = refl
 
 pub changed-too-long : (r : Road) → length (r .curves) ≡ greatestCurveCount → (k l : ℕ) → roadVerdict r ≡ Accepted → k < r .count →
     greatestCurve < l → roadVerdict (withLength r k l) ≡ Fault curveLengthRefused
-unfolding roadVerdict withLength
+unfolding verdictUpTo withLength
 changed-too-long r places k l e h over =
-    let count = fault-accepted (ltb greatestCurveCount (r .count)) curveCountRefused _ e in
+    let version = fault-accepted (outside firstVersion secondVersion (r .version)) versionRefused _ e in
+    let which = inside firstVersion secondVersion (r .version) (version .0) in
+    let count = fault-accepted (ltb greatestCurveCount (r .count)) curveCountRefused _ (version .1) in
     let few = nltb→le greatestCurveCount (r .count) (count .0) in
-    let both = first-fault-accepted (numbersVerdict r) _ (count .1) in
+    let both = first-fault-accepted (numbersVerdict greatestLongRoad r) _ (count .1) in
     let used = length-take-le (r .count) (r .curves) (omega arith) in
-    rw (le-ltb greatestCurveCount (r .count) few, numbers-stay r k l ∙ both .0, changed-curves r k l h)
+    rw (le-ltb (r .version) firstVersion (which .0), le-ltb secondVersion (r .version) (which .1), le-ltb greatestCurveCount (r .count) few, numbers-stay greatestLongRoad r k l ∙ both .0, changed-curves r k l h)
     (long-curves (r .length) (startOf r) (curvesOf r) k l over (omega arith) (both .1))
 
 -- ---- a road that is refused as it is

@@ -16,6 +16,7 @@ ofLength l c = record { pvi = c .pvi; length = l; «grade_out» = c .«grade_out
 -- the changed road: its curve at place k, counted from 0, has length l; all else stays
 unfoldable pub withLength : Road → ℕ → ℕ → Road
 withLength r k l = record {
+  version = r .version;
   speed = r .speed;
   purpose = r .purpose;
   length = r .length;

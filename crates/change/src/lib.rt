@@ -22,7 +22,7 @@ pub fn with_length(road: Road, place: u32, length: u16) -> Road
 pub fn change_verdict(road: Road, place: u32, length: u32) -> Verdict
     ensures { λ r. ⌜ r ≡ changeVerdict road place length ⌝ }
 {
-    let v = road::verdict(road);
+    let v = road::verdict(road, terms::GREATEST_LONG_ROAD);
     if let Verdict::Fault(_) = v {
         return v;
     }
@@ -33,5 +33,5 @@ pub fn change_verdict(road: Road, place: u32, length: u32) -> Verdict
         return Verdict::Fault(terms::CURVE_LENGTH_REFUSED);
     }
     let changed = with_length(road, place, length as u16);
-    road::verdict(changed)
+    road::verdict(changed, terms::GREATEST_LONG_ROAD)
 }

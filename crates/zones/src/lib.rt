@@ -52,7 +52,7 @@ fn count_zones(marks: &[u8], bit: u32) -> usize
 }
 
 // Stores a station at the place `at` where the test holds. The answer is the next place.
-fn put_if(test: bool, station: u16, list: &mut [u16], at: usize) -> usize
+fn put_if(test: bool, station: u32, list: &mut [u32], at: usize) -> usize
     requires { ⌜ Room (only test station) at (now list) ⌝ }
     ensures { λ r. ⌜ Wrote (only test station) at r (now (list .entry)) (now (list .exit)) ⌝ }
 {
@@ -64,20 +64,20 @@ fn put_if(test: bool, station: u16, list: &mut [u16], at: usize) -> usize
 }
 
 // Writes the first and the last station of each zone, from place 0 on.
-fn write_zones(marks: &[u8], bit: u32, list: &mut [u16])
+fn write_zones(marks: &[u8], bit: u32, list: &mut [u32])
     requires { ⌜ ZonesFit (now marks) bit (now list) ⌝ }
     ensures { λ _. ⌜ now (list .exit) ≡ placed (zoneEnds (now (marks .entry)) bit (length (now (marks .entry)))) 0 (now (list .entry)) ⌝ }
 {
     let mut at: usize = 0;
     for i in 0..marks.len() {
-        let station = i as u16;
+        let station = i as u32;
         at = put_if(begins_at(marks, bit, i), station, list, at);
         at = put_if(ends_at(marks, bit, i), station, list, at);
     }
 }
 
 // The zones of a bit: the first and the last station of each, in pairs, ascending, into `list`. The answer is their number.
-pub fn zones(marks: &[u8], bit: u32, list: &mut [u16]) -> Answer
+pub fn zones(marks: &[u8], bit: u32, list: &mut [u32]) -> Answer
     ensures answer { λ r. ⌜ r ≡ zonesAnswer (now (marks .entry)) bit (now (list .entry)) ⌝ }
     ensures list { λ _. ⌜ now (list .exit) ≡ zonesList (now (marks .entry)) bit (now (list .entry)) ⌝ }
 {
