@@ -8,7 +8,7 @@ use lib.IntN.{ℤ, pos}
 use lib.ListN.{length}
 use Rattle.whole.proofs.Fill.{filled-at}
 use Rattle.whole.proofs.Floor.{Floor}
-use Rattle.terms.specs.Limits.{greatestRoad}
+use Rattle.terms.specs.Limits.{greatestLongRoad}
 use Rattle.terms.specs.declared.Answer.the-variants.{Number}
 use Rattle.terms.specs.declared.Verdict.the-variants.{Accepted}
 use Rattle.verdicts.proofs.Laws.{LookInRange}
@@ -36,7 +36,7 @@ unfolding exactSight
 accuracy r list sights i e o far ok size room on e-low e-high o-low o-high far-low far-high =
     let own = heightsList r list in
     let stations : length own ≡ r .length + 1 = omega (arith, heights-length r list) in
-    let short : r .length ≤ greatestRoad = accepted-road r ok .length-high in
+    let short : r .length ≤ greatestLongRoad = accepted-road r ok .length-high in
     let look : LookInRange e o far = record {
       eye = (e-low, e-high);
       object = (o-low, o-high);

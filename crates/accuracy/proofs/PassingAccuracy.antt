@@ -9,7 +9,7 @@ use native.Mathlib.Omega.{arith}
 use borrow.Author.Tests.{ltb-true, ltb-false, leb-true, leb-false}
 use lib.IntN.{ℤ}
 use lib.ListN.{length}
-use Rattle.terms.specs.Limits.{greatestRoad, eyeHeight, passingObjectHeight}
+use Rattle.terms.specs.Limits.{greatestLongRoad, eyeHeight, passingObjectHeight}
 use Rattle.terms.specs.declared.Answer.the-variants.{Number}
 use Rattle.road.specs.declared.Road.{Road}
 use Rattle.road.proofs.Accepted.{accepted-road}
@@ -46,7 +46,7 @@ pub passing-accuracy : PassingAccuracy
 passing-accuracy r list sights marks i R ok size room place on low high =
     let own = heightsList r list in
     let stations : length own ≡ r .length + 1 = omega (arith, heights-length r list) in
-    let short : r .length ≤ greatestRoad = accepted-road r ok .length-high in
+    let short : r .length ≤ greatestLongRoad = accepted-road r ok .length-high in
     let accurate = accuracy r list sights i eyeHeight passingObjectHeight R ok size room on
     (omega arith) (omega arith) (omega arith) (omega arith) low high in
     let right = says r own R i stations (rw (accurate .available) at (accurate .at-least)) (rw (accurate .available) at (accurate .at-most)) in

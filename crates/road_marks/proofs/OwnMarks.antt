@@ -1,10 +1,9 @@
--- The marks of an accepted road's own heights are the road's: they are not refused, for its numbers are in their ranges. The array of
--- heights has a place for each of its stations, and its front is the road's own heights.
+-- The marks of an accepted road's own heights are the road's: they are not refused, for its numbers are in their ranges.
 use mathlib.Core.Path.{_≡_}
 use mathlib.Core.List.{List}
-use Prim.Native.Nat.{ℕ, _+_, _≤_}
+use Prim.Native.Nat.{ℕ, _+_}
 use native.Mathlib.Omega.{arith}
-use Rattle.terms.specs.Limits.{greatestMarkedRoad}
+use Rattle.terms.specs.Answers.{roomFor, written}
 use Rattle.terms.specs.declared.Verdict.the-variants.{Accepted}
 use Rattle.verdicts.proofs.Laws.{MarksInRange, marks-accepted}
 use Rattle.road.specs.declared.Road.{Road}
@@ -15,13 +14,9 @@ use Rattle.road_distances.proofs.Laws.{road-grade-in}
 use Rattle.heights.specs.Heights.{ownHeights}
 use Rattle.heights.proofs.Filled.{own-length}
 use Rattle.marks.specs.Marks.{marksAnswer, marksList}
-use Rattle.road_marks.specs.RoadMarks.{markRoadAnswer, markRoadList}
+use Rattle.road_marks.specs.RoadMarks.{roadMark}
 
 module _ (r : Road) (accepted : roadVerdict r ≡ Accepted) where
-  -- no accepted road is longer than the longest that is marked
-  pub marked-length : r .length ≤ greatestMarkedRoad
-  marked-length = accepted-road r accepted .length-high
-
   in-range : MarksInRange (r .speed) (r .purpose) (roadGrade r) (r .length + 1)
   in-range =
       let s = accepted-road r accepted in
@@ -33,10 +28,10 @@ module _ (r : Road) (accepted : roadVerdict r ≡ Accepted) where
       }
 
   module _ (marks : List ℕ) where
-    pub own-answer : marksAnswer (r .speed) (r .purpose) (roadGrade r) (ownHeights r) marks ≡ markRoadAnswer r marks
-    unfolding marksAnswer markRoadAnswer
-    own-answer = rw (own-length r, accepted, marks-accepted (r .speed) (r .purpose) (roadGrade r) (r .length + 1) in-range)
+    pub own-answer : marksAnswer (r .speed) (r .purpose) (roadGrade r) (ownHeights r) marks ≡ roomFor (r .length + 1) marks
+    unfolding marksAnswer
+    own-answer = rw (own-length r, marks-accepted (r .speed) (r .purpose) (roadGrade r) (r .length + 1) in-range)
 
-    pub own-list : marksList (r .speed) (r .purpose) (roadGrade r) (ownHeights r) marks ≡ markRoadList r marks
-    unfolding marksList markRoadList roadDistances
+    pub own-list : marksList (r .speed) (r .purpose) (roadGrade r) (ownHeights r) marks ≡ written (roadMark r) (roomFor (r .length + 1) marks) marks
+    unfolding marksList roadDistances
     own-list = rw own-answer

@@ -4,10 +4,10 @@ use mathlib.Core.List.{List}
 use Rattle.terms.specs.Answers.{unless, roomFor, written}
 use Rattle.terms.specs.declared.Answer.{Answer}
 use Rattle.road.specs.declared.Road.{Road}
-use Rattle.road.specs.Road.{roadVerdict}
+use Rattle.road.specs.Road.{verdictUpTo}
 use Rattle.heights.specs.Heights.{ownHeights}
 use Rattle.file.specs.File.{roadIn}
-use Rattle.file.specs.Reading.{readVerdict}
+use Rattle.file.specs.Reading.{readVerdictUpTo}
 use Rattle.road_distances.specs.RoadDistances.{roadDistances}
 use Rattle.marks.specs.Marks.{markOf}
 
@@ -15,17 +15,18 @@ use Rattle.marks.specs.Marks.{markOf}
 abbrev pub roadMark : Road → ℕ → ℕ
 roadMark r i = markOf (ownHeights r) (roadDistances r) i
 
--- marking a road as a value: refused as the road is, then 14; else the number of stations, N + 1
-unfoldable pub markRoadAnswer : Road → List ℕ → Answer
-markRoadAnswer r marks = unless (roadVerdict r) (roomFor (r .length + 1) marks)
+-- marking a road as a value, where none over `most` metres is taken: refused as the road is, then 14; else the number of stations,
+-- N + 1
+unfoldable pub markRoadAnswer : ℕ → Road → List ℕ → Answer
+markRoadAnswer most r marks = unless (verdictUpTo most r) (roomFor (r .length + 1) marks)
 
 -- each station's byte is its mark, bytes beyond stay; where it is refused all stay
-unfoldable pub markRoadList : Road → List ℕ → List ℕ
-markRoadList r marks = written (roadMark r) (markRoadAnswer r marks) marks
+unfoldable pub markRoadList : ℕ → Road → List ℕ → List ℕ
+markRoadList most r marks = written (roadMark r) (markRoadAnswer most r marks) marks
 
 -- marking a road file: refused as reading is, else as marking its road
-unfoldable pub markFileAnswer : List ℕ → List ℕ → Answer
-markFileAnswer file marks = unless (readVerdict file) (markRoadAnswer (roadIn file) marks)
+unfoldable pub markFileAnswer : ℕ → List ℕ → List ℕ → Answer
+markFileAnswer most file marks = unless (readVerdictUpTo most file) (markRoadAnswer most (roadIn file) marks)
 
-unfoldable pub markFileList : List ℕ → List ℕ → List ℕ
-markFileList file marks = written (roadMark (roadIn file)) (markFileAnswer file marks) marks
+unfoldable pub markFileList : ℕ → List ℕ → List ℕ → List ℕ
+markFileList most file marks = written (roadMark (roadIn file)) (markFileAnswer most file marks) marks

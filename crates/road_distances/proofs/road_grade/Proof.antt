@@ -84,7 +84,7 @@ loop-again c =
 
 -- the first grade, as it is cast
 first-grade : (c : tie.After-struct-told2 Inv-loop μ-loop) → Widens w16 w32 (c .before .before .before .before .args .t1 .«first_grade»)
-first-grade c = widens w16 w32 _ (c .struct-told2 .given .1 .1 .1 .1 .0 .1) tt
+first-grade c = widens w16 w32 _ (c .struct-told2 .given .1 .1 .1 .1 .1 .0 .1) tt
 
 cast-lesser-2 : tie.Need-cast-lesser-2 Inv-loop μ-loop
 cast-lesser-2 c = first-grade c .0
