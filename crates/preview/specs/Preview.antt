@@ -5,12 +5,14 @@ use mathlib.Core.List.{List}
 use lib.Dec.{ltb, eqb}
 use lib.ListN.{length}
 use Rattle.terms.specs.Answers.{fault, firstFault, unless, keptUnless}
+use Rattle.terms.specs.Limits.{greatestShortRoad}
 use Rattle.terms.specs.Refusals.{roomRefused}
 use Rattle.terms.specs.declared.Answer.{Answer}
 use Rattle.terms.specs.declared.Answer.the-variants.{Number}
 use Rattle.terms.specs.declared.Verdict.{Verdict}
 use Rattle.terms.specs.declared.Verdict.the-variants.{Accepted}
 use Rattle.road.specs.declared.Road.{Road}
+use Rattle.road.specs.Road.{shortRoadVerdict}
 use Rattle.road_marks.specs.RoadMarks.{roadMark, markRoadList}
 use Rattle.change.specs.Change.{withLength, changeVerdict}
 
@@ -23,12 +25,14 @@ differing f g (suc n) = differing f g n + cond (eqb (f n) (g n)) 0 1
 abbrev pub tooShort : Road → List ℕ → Bool
 tooShort r list = ltb (length list) (r .length + 1)
 
--- of a road, a place, a new length and two lent lists: the refusals of the change, then 14 for the first list, then 14 for the second
+-- of a road, a place, a new length and two lent lists: the refusals of a road where none over 8,000 m is taken, those of the change, then
+-- 14 for the first list, then 14 for the second
 unfoldable pub previewVerdict : Road → ℕ → ℕ → List ℕ → List ℕ → Verdict
 previewVerdict r k l first second =
-    firstFault (changeVerdict r k l)
+    firstFault (shortRoadVerdict r)
+    (firstFault (changeVerdict r k l)
     (fault (tooShort r first) roomRefused
-    (fault (tooShort r second) roomRefused Accepted))
+    (fault (tooShort r second) roomRefused Accepted)))
 
 -- at how many of the road's stations the marks of the changed road differ from its own
 unfoldable pub previewAnswer : Road → ℕ → ℕ → List ℕ → List ℕ → Answer
@@ -38,8 +42,8 @@ previewAnswer r k l first second =
 
 -- the first list holds what marking the road leaves in it; where the preview is refused it stays
 unfoldable pub previewFirst : Road → ℕ → ℕ → List ℕ → List ℕ → List ℕ
-previewFirst r k l first second = keptUnless (previewVerdict r k l first second) (markRoadList r first) first
+previewFirst r k l first second = keptUnless (previewVerdict r k l first second) (markRoadList greatestShortRoad r first) first
 
 -- the second likewise holds what marking the changed road leaves in it
 unfoldable pub previewSecond : Road → ℕ → ℕ → List ℕ → List ℕ → List ℕ
-previewSecond r k l first second = keptUnless (previewVerdict r k l first second) (markRoadList (withLength r k l) second) second
+previewSecond r k l first second = keptUnless (previewVerdict r k l first second) (markRoadList greatestShortRoad (withLength r k l) second) second
