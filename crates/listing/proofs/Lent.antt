@@ -1,4 +1,4 @@
--- What `zones` and `mark_road` leave in the arrays of the listing, which have places for the longest road that is marked.
+-- What `zones` and `mark_short_road` leave in the arrays of the listing, which have places for the longest road that is listed.
 use Prim.Native.Nat.{ℕ, zero, suc, _+_, _*_, _≤_, _<_}
 use mathlib.Core.Path.{_≡_, refl, ap, _∙_}
 use mathlib.Core.List.{List}
@@ -8,12 +8,12 @@ use lib.ListN.{length, take, getD}
 use Rattle.whole.specs.Fill.{filled}
 use Rattle.whole.proofs.Fill.{filled-length, filled-at}
 use Rattle.terms.specs.Answers.{valueOrZero}
-use Rattle.terms.specs.Limits.{greatestList, greatestMarkedRoad}
+use Rattle.terms.specs.Limits.{greatestList, greatestShortRoad}
 use Rattle.terms.specs.declared.Answer.the-variants.{Number}
 use Rattle.terms.specs.declared.Verdict.the-variants.{Accepted}
 use Rattle.terms.proofs.Laws.{not-outside, written-length, ends-front}
 use Rattle.road.specs.declared.Road.{Road}
-use Rattle.road.specs.Road.{roadVerdict}
+use Rattle.road.specs.Road.{shortRoadVerdict}
 use Rattle.road_marks.specs.RoadMarks.{roadMark, markRoadAnswer, markRoadList}
 use Rattle.zones.specs.Zones.{zoneEnds, zoneCount, zonesAnswer, zonesList}
 use Rattle.zones.proofs.Laws.{zones-at-most, zones-by-room}
@@ -26,7 +26,7 @@ joined-cong f g (suc n) h = rw (joined-cong f g n (λ k l. h k (omega arith)), h
 
 -- ---- zones: the lines of the bit, by the number that `zones` answers and the list that it leaves
 pub zones-lines : (marks list ends : List ℕ) (b count : ℕ) → b < length bitLetters → 0 < length marks →
-    length marks ≤ greatestMarkedRoad + 1 → length list ≡ greatestMarkedRoad + 2 → count ≡ valueOrZero (zonesAnswer marks b list) →
+    length marks ≤ greatestShortRoad + 1 → length list ≡ greatestShortRoad + 2 → count ≡ valueOrZero (zonesAnswer marks b list) →
     ends ≡ zonesList marks b list →
     (zoneLines (getD bitLetters b 0) ends count ≡ bitLines marks b) × (2 * count ≤ length ends)
 unfolding bitLines zonesList
@@ -46,9 +46,9 @@ zones-lines marks list ends b count bit some short places e p =
     )
 
 -- ---- marks: the first N + 1 places of a list with room for them
-pub own-marks-front : (r : Road) (list out : List ℕ) → out ≡ markRoadList r list → roadVerdict r ≡ Accepted → r .length + 1 ≤ length out →
+pub own-marks-front : (r : Road) (list out : List ℕ) → out ≡ markRoadList greatestShortRoad r list → shortRoadVerdict r ≡ Accepted → r .length + 1 ≤ length out →
     take (r .length + 1) out ≡ ownMarks r
 unfolding ownMarks markRoadList markRoadAnswer
 own-marks-front r list out p e l =
-    let same = ap length p ∙ written-length (roadMark r) (markRoadAnswer r list) list in
-    rw p (ends-front (roadMark r) (roadVerdict r) (r .length + 1) list 0 e (omega arith))
+    let same = ap length p ∙ written-length (roadMark r) (markRoadAnswer greatestShortRoad r list) list in
+    rw p (ends-front (roadMark r) (shortRoadVerdict r) (r .length + 1) list 0 e (omega arith))

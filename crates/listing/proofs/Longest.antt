@@ -9,21 +9,20 @@ use native.Mathlib.Omega.{arith}
 use lib.Dec.{ltb}
 use lib.ListN.{length, getD, replicate, length-append, length-replicate}
 use Rattle.whole.proofs.Table.{each-at}
-use Rattle.terms.specs.Limits.{greatestMarkedRoad}
+use Rattle.terms.specs.Limits.{greatestShortRoad}
 use Rattle.terms.specs.declared.Verdict.{Verdict}
 use Rattle.terms.specs.declared.Verdict.the-variants.{Accepted, Fault}
 use Rattle.terms.proofs.Laws.{written-length}
 use Rattle.distance.specs.declared.Distances.{Distances}
 use Rattle.road.specs.declared.Road.{Road}
-use Rattle.road.specs.Road.{roadVerdict}
+use Rattle.road.specs.Road.{shortRoadVerdict}
 use Rattle.road.proofs.Accepted.{accepted-road}
 use Rattle.road_distances.specs.RoadDistances.{roadDistances}
 use Rattle.road_distances.proofs.Laws.{road-distances-at-most}
-use Rattle.file.specs.File.{letters, roadIn, version}
-use Rattle.file.specs.Reading.{readRoad, readVerdict}
+use Rattle.file.specs.File.{letters, roadIn}
+use Rattle.file.specs.Reading.{readUpTo, shortReadVerdict}
 use Rattle.file.proofs.Sound.{accepted-file, read-by}
 use Rattle.road_marks.specs.RoadMarks.{roadMark, markRoadAnswer, markRoadList}
-use Rattle.road_marks.proofs.OwnMarks.{marked-length}
 use Rattle.zones.specs.Zones.{zoneEnds, zoneCount}
 use Rattle.zones.proofs.Laws.{zones-at-most}
 use Rattle.listing.specs.Listing.{joined, digit, item, line, refusedWord, firstLine, zoneLine, bitLetters, bitLines, ownMarks, roadText, textOf, listing, HoldsListings}
@@ -65,8 +64,8 @@ line-at-most : (word numbers : List ℕ) (m : ℕ) → ((k : ℕ) → length (it
 unfolding line
 line-at-most word numbers m h = simp length-append (omega (arith, joined-at-most (λ k. item (getD numbers k 0)) m (length numbers) h))
 
-first-at-most : (speed : ℕ) (d : Distances) → speed < 1000 → (d .stopping < 1000) × (d .decision < 1000) → length (firstLine speed d) ≤ 22
-first-at-most speed d h small =
+first-at-most : (version speed : ℕ) (d : Distances) → version < 1000 → speed < 1000 → (d .stopping < 1000) × (d .decision < 1000) → length (firstLine version speed d) ≤ 22
+first-at-most version speed d first h small =
     let numbers = version ∷ speed ∷ d .stopping ∷ d .decision ∷ [] in
     let each : (k : ℕ) → length (item (getD numbers k 0)) ≤ 4 =
     λ k. small-item-at-most (getD numbers k 0) (each-at (λ (x : ℕ). x < 1000) numbers k 0 (omega arith) (λ _. omega arith)) in
@@ -78,13 +77,13 @@ zone-at-most letter first last = line-at-most (letter ∷ []) (first ∷ last �
 -- ---- the text of a road
 -- at most one zone of a bit for two stations
 abbrev mostZones : ℕ
-mostZones = (greatestMarkedRoad + 2) / 2
+mostZones = (greatestShortRoad + 2) / 2
 
 -- a first line of at most 22 bytes, and for each letter zones with a line of at most 14 bytes
 abbrev pub greatestListing : ℕ
 greatestListing = 22 + 14 * mostZones * length bitLetters
 
-bit-at-most : (marks : List ℕ) → length marks ≤ greatestMarkedRoad + 1 → (b : ℕ) → length (bitLines marks b) ≤ 14 * mostZones
+bit-at-most : (marks : List ℕ) → length marks ≤ greatestShortRoad + 1 → (b : ℕ) → length (bitLines marks b) ≤ 14 * mostZones
 unfolding bitLines
 bit-at-most marks h b =
     let n = length marks in let ends = zoneEnds marks b n in
@@ -94,21 +93,23 @@ bit-at-most marks h b =
 own-marks-length : (r : Road) → length (ownMarks r) ≡ r .length + 1
 unfolding ownMarks markRoadList
 own-marks-length r =
-    written-length (roadMark r) (markRoadAnswer r (replicate (r .length + 1) 0)) (replicate (r .length + 1) 0)
+    written-length (roadMark r) (markRoadAnswer greatestShortRoad r (replicate (r .length + 1) 0)) (replicate (r .length + 1) 0)
     ∙ length-replicate {A = ℕ} (r .length + 1) 0
 
-road-at-most : (r : Road) → roadVerdict r ≡ Accepted → length (roadText r) ≤ greatestListing
+road-at-most : (r : Road) → shortRoadVerdict r ≡ Accepted → length (roadText r) ≤ greatestListing
 unfolding roadText
 road-at-most r accepted =
-    let stations : length (ownMarks r) ≤ greatestMarkedRoad + 1 = omega (arith, own-marks-length r, marked-length r accepted) in
+    let stations : length (ownMarks r) ≤ greatestShortRoad + 1 = omega (arith, own-marks-length r, accepted-road r accepted .length-high) in
     let zones = joined-at-most (bitLines (ownMarks r)) (14 * mostZones) (length bitLetters) (bit-at-most (ownMarks r) stations) in
     let small = road-distances-at-most r in
-    simp length-append (omega (arith, first-at-most (r .speed) (roadDistances r) (omega (arith, accepted-road r accepted .speed-high)) (omega arith)))
+    let road = accepted-road r accepted in
+    let first = first-at-most (r .version) (r .speed) (roadDistances r) (omega (arith, road .version-high)) (omega (arith, road .speed-high)) (omega arith) in
+    simp length-append (omega (arith, first))
 
 pub listing-at-most : HoldsListings greatestListing
 unfolding listing
-listing-at-most file = go (readVerdict file) refl
+listing-at-most file = go (shortReadVerdict file) refl
   where
-    go : (v : Verdict) → readVerdict file ≡ v → length (textOf (readRoad file)) ≤ greatestListing
-    go Accepted e = rw (read-by file Accepted e) (road-at-most (roadIn file) (accepted-file file e .road))
-    go (Fault k) e = rw (read-by file (Fault k) e) (omega (arith, line-at-most refusedWord (k ∷ []) 6 (λ _. item-at-most _)))
+    go : (v : Verdict) → shortReadVerdict file ≡ v → length (textOf (readUpTo greatestShortRoad file)) ≤ greatestListing
+    go Accepted e = rw (read-by greatestShortRoad file Accepted e) (road-at-most (roadIn file) (accepted-file file e .road))
+    go (Fault k) e = rw (read-by greatestShortRoad file (Fault k) e) (omega (arith, line-at-most refusedWord (k ∷ []) 6 (λ _. item-at-most _)))

@@ -6,6 +6,7 @@ use mathlib.Core.List.{List, [], _∷_, _++_}
 use lib.Dec.{ltb}
 use lib.ListN.{length, take, replicate, getD}
 use Rattle.terms.specs.Answers.{roomFor, written}
+use Rattle.terms.specs.Limits.{greatestShortRoad}
 use Rattle.terms.specs.declared.Answer.{Answer}
 use Rattle.terms.specs.declared.Verdict.{Verdict}
 use Rattle.terms.specs.declared.Verdict.the-variants.{Accepted, Fault}
@@ -13,8 +14,8 @@ use Rattle.distance.specs.declared.Distances.{Distances}
 use Rattle.road.specs.declared.Road.{Road}
 use Rattle.road_distances.specs.RoadDistances.{roadDistances}
 use Rattle.file.specs.declared.ReadRoad.{ReadRoad}
-use Rattle.file.specs.File.{letters, version}
-use Rattle.file.specs.Reading.{readRoad}
+use Rattle.file.specs.File.{letters}
+use Rattle.file.specs.Reading.{readUpTo}
 use Rattle.road_marks.specs.RoadMarks.{markRoadList}
 use Rattle.zones.specs.Zones.{zoneEnds, zoneCount}
 
@@ -52,8 +53,8 @@ abbrev pub refusedLine : ℕ → List ℕ
 refusedLine k = line refusedWord (k ∷ [])
 
 -- VCP, version, speed, stopping and decision distance
-abbrev pub firstLine : ℕ → Distances → List ℕ
-firstLine speed d = line letters (version ∷ speed ∷ d .stopping ∷ d .decision ∷ [])
+abbrev pub firstLine : ℕ → ℕ → Distances → List ℕ
+firstLine version speed d = line letters (version ∷ speed ∷ d .stopping ∷ d .decision ∷ [])
 
 -- a zone: its letter, its first and its last station
 abbrev pub zoneLine : ℕ → ℕ → ℕ → List ℕ
@@ -79,11 +80,11 @@ zonesText marks = joined (bitLines marks) (length bitLetters)
 
 -- the marks of a road, a list of just N + 1
 unfoldable pub ownMarks : Road → List ℕ
-ownMarks r = markRoadList r (replicate (r .length + 1) 0)
+ownMarks r = markRoadList greatestShortRoad r (replicate (r .length + 1) 0)
 
 -- the first line, and the zones of its marks
 unfoldable pub roadText : Road → List ℕ
-roadText r = firstLine (r .speed) (roadDistances r) ++ zonesText (ownMarks r)
+roadText r = firstLine (r .version) (r .speed) (roadDistances r) ++ zonesText (ownMarks r)
 
 -- by reading's verdict: the road's text, or the line of the refusal
 abbrev pub textFor : Verdict → Road → List ℕ
@@ -94,9 +95,9 @@ textFor (Fault k) r = refusedLine k
 abbrev pub textOf : ReadRoad → List ℕ
 textOf read = textFor (read .verdict) (read .road)
 
--- the listing of a road file
+-- the listing of a road file, which no road over 8,000 m has
 unfoldable pub listing : List ℕ → List ℕ
-listing file = textOf (readRoad file)
+listing file = textOf (readUpTo greatestShortRoad file)
 
 -- ---- the operation: refused 14 where the buffer is shorter than the listing, a refusal that the rules leave free; else how many
 -- bytes are written

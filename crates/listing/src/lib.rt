@@ -3,9 +3,9 @@ ghost use mathlib.Core.Path.{_≡_};
 ghost use mathlib.Core.List.{[], _∷_};
 ghost use Prim.Native.Nat.{_+_, _*_, _≤_, _<_};
 ghost use lib.ListN.{length};
-ghost use Rattle.terms.specs.Limits.{greatestMarkedRoad};
+ghost use Rattle.terms.specs.Limits.{greatestShortRoad};
 ghost use Rattle.terms.specs.declared.Verdict.the-variants.{Accepted};
-ghost use Rattle.road.specs.Road.{roadVerdict};
+ghost use Rattle.road.specs.Road.{shortRoadVerdict};
 ghost use Rattle.listing.specs.Listing.{digit, item, line, zoneLines, bitLetters, bitLines, zonesText, roadText, listing, listAnswer, listBuffer};
 ghost use Rattle.listing.specs.Put.{Put};
 use road::Road;
@@ -21,7 +21,7 @@ const LINE_FEED: u8 = 10;
 const LETTERS: u32 = 5;
 
 // Zones of a bit: between two of them there is a station without it.
-const MOST_ZONES: usize = (terms::MARKED_STATIONS + 1) / 2;
+const MOST_ZONES: usize = (terms::SHORT_STATIONS + 1) / 2;
 
 // Bytes that hold any listing: a first line has at most 22, and the line of a zone at most 14.
 pub const GREATEST_LISTING: usize = 22 + 14 * MOST_ZONES * LETTERS as usize;
@@ -84,14 +84,14 @@ fn write_line(word: &[u8], numbers: &[u32], text: &mut [u8], at: usize) -> usize
 }
 
 // Writes the lines of the first `count` zones of a letter, whose first and last stations stand in `ends`.
-fn write_zone_lines(letter: u8, ends: &[u16], count: usize, text: &mut [u8], at: usize) -> usize
+fn write_zone_lines(letter: u8, ends: &[u32], count: usize, text: &mut [u8], at: usize) -> usize
     requires { ⌜ 2 * count ≤ length (now ends) ⌝ }
     ensures { λ r. ⌜ Put (zoneLines letter (now (ends .entry)) count) at r (now (text .entry)) (now (text .exit)) ⌝ }
 {
     let word = [letter];
     let mut next = at;
     for k in 0..count {
-        let numbers = [ends[2 * k] as u32, ends[2 * k + 1] as u32];
+        let numbers = [ends[2 * k], ends[2 * k + 1]];
         next = write_line(&word, &numbers, text, next);
     }
     next
@@ -99,10 +99,10 @@ fn write_zone_lines(letter: u8, ends: &[u16], count: usize, text: &mut [u8], at:
 
 // Writes the zones of a bit of the marks.
 fn write_bit_lines(marks: &[u8], bit: u32, text: &mut [u8], at: usize) -> usize
-    requires { ⌜ (bit < length bitLetters) × (0 < length (now marks)) × (length (now marks) ≤ greatestMarkedRoad + 1) ⌝ }
+    requires { ⌜ (bit < length bitLetters) × (0 < length (now marks)) × (length (now marks) ≤ greatestShortRoad + 1) ⌝ }
     ensures { λ r. ⌜ Put (bitLines (now (marks .entry)) bit) at r (now (text .entry)) (now (text .exit)) ⌝ }
 {
-    let mut ends = [0u16; 2 * MOST_ZONES];
+    let mut ends = [0u32; 2 * MOST_ZONES];
     let letters = b"SDRsd";
     let letter = letters[bit as usize];
     let count = terms::value_or_zero(zones::zones(marks, bit, &mut ends));
@@ -111,7 +111,7 @@ fn write_bit_lines(marks: &[u8], bit: u32, text: &mut [u8], at: usize) -> usize
 
 // Writes the zones of all letters.
 fn write_zones_text(marks: &[u8], text: &mut [u8], at: usize) -> usize
-    requires { ⌜ (0 < length (now marks)) × (length (now marks) ≤ greatestMarkedRoad + 1) ⌝ }
+    requires { ⌜ (0 < length (now marks)) × (length (now marks) ≤ greatestShortRoad + 1) ⌝ }
     ensures { λ r. ⌜ Put (zonesText (now (marks .entry))) at r (now (text .entry)) (now (text .exit)) ⌝ }
 {
     let mut next = at;
@@ -121,17 +121,17 @@ fn write_zones_text(marks: &[u8], text: &mut [u8], at: usize) -> usize
     next
 }
 
-// Writes the text of an accepted road, from the place 0 on.
+// Writes the text of a road that is listed, from the place 0 on.
 fn write_road(road: Road, text: &mut [u8]) -> usize
-    requires { ⌜ roadVerdict road ≡ Accepted ⌝ }
+    requires { ⌜ shortRoadVerdict road ≡ Accepted ⌝ }
     ensures { λ r. ⌜ Put (roadText road) 0 r (now (text .entry)) (now (text .exit)) ⌝ }
 {
     let speed = road.speed as u32;
     let needed = road_distances::road_distances(road);
-    let numbers = [file::VERSION, speed, needed.stopping, needed.decision];
+    let numbers = [road.version, speed, needed.stopping, needed.decision];
     let next = write_line(b"VCP", &numbers, text, 0);
-    let mut marks = [0u8; terms::MARKED_STATIONS];
-    road_marks::mark_road(road, &mut marks);
+    let mut marks = [0u8; terms::SHORT_STATIONS];
+    road_marks::mark_short_road(road, &mut marks);
     let stations = road.length as usize + 1;
     write_zones_text(&marks[..stations], text, next)
 }
@@ -140,7 +140,7 @@ fn write_road(road: Road, text: &mut [u8]) -> usize
 fn write_listing(file: &[u8], text: &mut [u8]) -> usize
     ensures { λ r. ⌜ Put (listing (now (file .entry))) 0 r (now (text .entry)) (now (text .exit)) ⌝ }
 {
-    let read = file::read(file);
+    let read = file::read(file, terms::GREATEST_SHORT_ROAD);
     let verdict = read.verdict;
     if let Verdict::Fault(number) = verdict {
         let numbers = [number as u32];

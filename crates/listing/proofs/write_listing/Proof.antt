@@ -1,8 +1,9 @@
 -- `write_listing` meets its contract: what was read decides between the line of the refusal and the text of the road.
 use mathlib.Core.Path.{_≡_, sym, _∙_}
 use borrow.Author.Needs.{needs}
+use Rattle.terms.specs.Limits.{greatestShortRoad}
 use Rattle.terms.specs.declared.Verdict.the-variants.{Accepted}
-use Rattle.file.specs.Reading.{readVerdict}
+use Rattle.file.specs.Reading.{shortReadVerdict}
 use Rattle.file.proofs.Sound.{accepted-file, verdict-read, road-read}
 use Rattle.listing.specs.Listing.{listing}
 use Rattle.listing.proofs.write_listing.Statement.{statement}
@@ -41,9 +42,9 @@ enum-told c = search needs
 write-road-requires : tie.Need-write-road-requires
 write-road-requires c κs =
     let t = c .before in let read = t .before .before .read in
-    let accepted : readVerdict (t .before .before .before .before .before .args .file .now) ≡ Accepted =
-    sym (verdict-read _ _ (read .ensures)) ∙ t .enum-told .given .1 in
-    rw (road-read _ _ (read .ensures) accepted) (accepted-file _ accepted .road)
+    let accepted : shortReadVerdict (t .before .before .before .before .before .args .file .now) ≡ Accepted =
+    sym (verdict-read greatestShortRoad _ _ (read .ensures)) ∙ t .enum-told .given .1 in
+    rw (road-read greatestShortRoad _ _ (read .ensures) accepted) (accepted-file _ accepted .road)
 
 same-length-2 : tie.Need-same-length-2
 same-length-2 c = search needs

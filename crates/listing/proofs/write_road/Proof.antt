@@ -6,7 +6,7 @@ use borrow.Author.Needs.{needs}
 use native.Mathlib.Omega.{arith}
 use lib.ListN.{length}
 use lib.Seq.{length-take-le}
-use Rattle.road_marks.proofs.OwnMarks.{marked-length}
+use Rattle.road.proofs.Accepted.{accepted-road}
 use Rattle.listing.specs.Listing.{roadText}
 use Rattle.listing.proofs.Lent.{own-marks-front}
 use Rattle.listing.proofs.Put.{put-join}
@@ -28,11 +28,11 @@ slice-aggregate-write-line-2 c = search needs
 write-line-requires : tie.Need-write-line-requires
 write-line-requires c κs = search needs
 
-slice-aggregate-mark-road : tie.Need-slice-aggregate-mark-road
-slice-aggregate-mark-road c = search needs
+slice-aggregate-mark-short-road : tie.Need-slice-aggregate-mark-short-road
+slice-aggregate-mark-short-road c = search needs
 
-mark-road-requires : tie.Need-mark-road-requires
-mark-road-requires c κs = search needs
+mark-short-road-requires : tie.Need-mark-short-road-requires
+mark-short-road-requires c κs = search needs
 
 cast-stations : tie.Need-cast-stations
 cast-stations c = search needs
@@ -42,18 +42,18 @@ add-stations c = search needs
 
 -- ---- the road's own marks
 -- from where the road was marked, back to the first line, to the distances and to the start
-abbrev lined : tie.After-mark-road → tie.After-write-line
+abbrev lined : tie.After-mark-short-road → tie.After-write-line
 lined m = m .before .before .before .before
 
-abbrev needed : tie.After-mark-road → tie.After-road-distances
+abbrev needed : tie.After-mark-short-road → tie.After-road-distances
 needed m = lined m .before .before .before .before
 
-abbrev start : tie.After-mark-road → tie.Start
+abbrev start : tie.After-mark-short-road → tie.Start
 start m = needed m .before .before .before
 
 -- the array has a place for each station of an accepted road
-room : (m : tie.After-mark-road) → start m .args .road .length + 1 ≤ length (m .mark-road .last .1 .0)
-room m = omega (arith, m .mark-road .kept .1 .0, marked-length _ (start m .pre))
+room : (m : tie.After-mark-short-road) → start m .args .road .length + 1 ≤ length (m .mark-short-road .last .1 .0)
+room m = omega (arith, m .mark-short-road .kept .1 .0, accepted-road _ (start m .pre) .length-high)
 
 array-share-prefix-marks : tie.Need-array-share-prefix-marks
 array-share-prefix-marks c = room (c .before .before)
@@ -64,7 +64,7 @@ slice-aggregate-write-zones-text c = sym (length-take-le _ _ (room (c .before .b
 write-zones-text-requires : tie.Need-write-zones-text-requires
 write-zones-text-requires c κs =
     let m = c .before .before .before .before in
-    rw (length-take-le _ _ (room m)) (omega (arith, marked-length _ (start m .pre)))
+    rw (length-take-le _ _ (room m)) (omega (arith, accepted-road _ (start m .pre) .length-high))
 
 same-length : tie.Need-same-length
 same-length c = search needs
@@ -73,7 +73,7 @@ returns : tie.Need-returns
 unfolding roadText
 returns c =
     let z = c .before .before in let m = z .before .before .before .before .before in
-    let own = own-marks-front _ _ _ (m .mark-road .ensures .1) (start m .pre) (room m) in
+    let own = own-marks-front _ _ _ (m .mark-short-road .ensures .1) (start m .pre) (room m) in
     rw (← needed m .road-distances .ensures) (put-join (lined m .write-line .ensures) (rw own at (z .write-zones-text .ensures)))
 
 pub write-road-spec : {M : Type 1} → statement M
@@ -85,8 +85,8 @@ write-road-spec =
     slice-aggregate-write-line
     slice-aggregate-write-line-2
     write-line-requires
-    slice-aggregate-mark-road
-    mark-road-requires
+    slice-aggregate-mark-short-road
+    mark-short-road-requires
     cast-stations
     add-stations
     array-share-prefix-marks

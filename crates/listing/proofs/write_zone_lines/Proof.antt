@@ -33,23 +33,17 @@ mul-t12 c = search needs
 shared-slice-read-t14 : tie.Need-shared-slice-read-t14 Inv-loop μ-loop
 shared-slice-read-t14 c = search needs
 
-cast-t15 : tie.Need-cast-t15 Inv-loop μ-loop
-cast-t15 c = omega (arith, c .shared-slice-known2 .given (2 * c .before .before .loop .k))
+mul-t15 : tie.Need-mul-t15 Inv-loop μ-loop
+mul-t15 c = search needs
 
-mul-t16 : tie.Need-mul-t16 Inv-loop μ-loop
-mul-t16 c = search needs
+add-t16 : tie.Need-add-t16 Inv-loop μ-loop
+add-t16 c = search needs
 
-add-t17 : tie.Need-add-t17 Inv-loop μ-loop
-add-t17 c = search needs
+mul-t17 : tie.Need-mul-t17 Inv-loop μ-loop
+mul-t17 c = search needs
 
-mul-t18 : tie.Need-mul-t18 Inv-loop μ-loop
-mul-t18 c = search needs
-
-shared-slice-read-t20 : tie.Need-shared-slice-read-t20 Inv-loop μ-loop
-shared-slice-read-t20 c = search needs
-
-cast-t21 : tie.Need-cast-t21 Inv-loop μ-loop
-cast-t21 c = omega (arith, c .shared-slice-known3 .given (2 * c .before .before .before .loop .k + 1))
+shared-slice-read-t19 : tie.Need-shared-slice-read-t19 Inv-loop μ-loop
+shared-slice-read-t19 c = search needs
 
 slice-aggregate-write-line : tie.Need-slice-aggregate-write-line Inv-loop μ-loop
 slice-aggregate-write-line c = search needs
@@ -90,12 +84,10 @@ write-zone-lines-spec =
     mul-t11
     mul-t12
     shared-slice-read-t14
-    cast-t15
-    mul-t16
-    add-t17
-    mul-t18
-    shared-slice-read-t20
-    cast-t21
+    mul-t15
+    add-t16
+    mul-t17
+    shared-slice-read-t19
     slice-aggregate-write-line
     slice-aggregate-write-line-2
     write-line-requires
