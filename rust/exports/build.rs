@@ -9,6 +9,7 @@ fn main() {
         "marks_exports",
         "passing_exports",
         "file_exports",
+        "road_exports",
         "preview_exports",
         "listing_exports",
     ]);

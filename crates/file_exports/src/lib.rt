@@ -11,7 +11,7 @@ pub extern "C" fn vcp_rewrite(file: &[u8], out: &mut [u8]) -> i64
     ensures answer { λ r. ⌜ r ≡ signed (rewriteAnswer (now (file .entry)) (now (out .entry))) ⌝ }
     ensures list { λ _. ⌜ now (out .exit) ≡ rewriteList (now (file .entry)) (now (out .entry)) ⌝ }
 {
-    let read = file::read(file);
+    let read = file::read(file, terms::GREATEST_LONG_ROAD);
     let verdict = read.verdict;
     if let Verdict::Fault(number) = verdict {
         return terms::signed_answer(Answer::Refused(number));
@@ -25,7 +25,7 @@ pub extern "C" fn vcp_file_heights(file: &[u8], list: &mut [i32]) -> i64
     ensures answer { λ r. ⌜ r ≡ signed (fileHeightsAnswer (now (file .entry)) (now (list .entry))) ⌝ }
     ensures list { λ _. ⌜ now (list .exit) ≡ fileHeightsList (now (file .entry)) (now (list .entry)) ⌝ }
 {
-    let read = file::read(file);
+    let read = file::read(file, terms::GREATEST_LONG_ROAD);
     let verdict = read.verdict;
     if let Verdict::Fault(refusal) = verdict {
         return terms::signed_answer(Answer::Refused(refusal));
@@ -40,7 +40,7 @@ pub extern "C" fn vcp_file_heights(file: &[u8], list: &mut [i32]) -> i64
 pub extern "C" fn vcp_file_downgrade(file: &[u8]) -> i64
     ensures { λ r. ⌜ r ≡ signed (fileDowngrade (now (file .entry))) ⌝ }
 {
-    let read = file::read(file);
+    let read = file::read(file, terms::GREATEST_LONG_ROAD);
     let verdict = read.verdict;
     if let Verdict::Fault(fault) = verdict {
         return terms::signed_answer(Answer::Refused(fault));

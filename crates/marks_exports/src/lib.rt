@@ -20,7 +20,7 @@ pub extern "C" fn vcp_marks(
 }
 
 #[no_mangle]
-pub extern "C" fn vcp_zones(marks: &[u8], bit: u32, list: &mut [u16]) -> i64
+pub extern "C" fn vcp_zones(marks: &[u8], bit: u32, list: &mut [u32]) -> i64
     ensures answer { λ r. ⌜ r ≡ signed (zonesAnswer (now (marks .entry)) bit (now (list .entry))) ⌝ }
     ensures list { λ _. ⌜ now (list .exit) ≡ zonesList (now (marks .entry)) bit (now (list .entry)) ⌝ }
 {

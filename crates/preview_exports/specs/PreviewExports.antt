@@ -6,7 +6,7 @@ use Rattle.terms.specs.Answers.{firstFault, unless, keptUnless}
 use Rattle.terms.specs.declared.Answer.{Answer}
 use Rattle.terms.specs.declared.Verdict.{Verdict}
 use Rattle.file.specs.File.{roadIn}
-use Rattle.file.specs.Reading.{readVerdict}
+use Rattle.file.specs.Reading.{readVerdict, shortReadVerdict}
 use Rattle.writing.specs.Writing.{writeAnswer, writeList}
 use Rattle.change.specs.Change.{withLength, changeVerdict}
 use Rattle.preview.specs.Preview.{previewAnswer, previewFirst, previewSecond}
@@ -23,13 +23,13 @@ changeFileAnswer file k l out = unless (changeFileVerdict file k l) (writeAnswer
 unfoldable pub changeFileList : List ℕ → ℕ → ℕ → List ℕ → List ℕ
 changeFileList file k l out = keptUnless (changeFileVerdict file k l) (writeList (withLength (roadIn file) k l) out) out
 
--- a file read and its road's preview: refused as reading, then as the preview
+-- a file read and its road's preview: refused as reading where no road over 8,000 m is taken, then as the preview
 unfoldable pub previewFileAnswer : List ℕ → ℕ → ℕ → List ℕ → List ℕ → Answer
-previewFileAnswer file k l first second = unless (readVerdict file) (previewAnswer (roadIn file) k l first second)
+previewFileAnswer file k l first second = unless (shortReadVerdict file) (previewAnswer (roadIn file) k l first second)
 
 -- what it leaves in the first list, and in the second
 unfoldable pub previewFileFirst : List ℕ → ℕ → ℕ → List ℕ → List ℕ → List ℕ
-previewFileFirst file k l first second = keptUnless (readVerdict file) (previewFirst (roadIn file) k l first second) first
+previewFileFirst file k l first second = keptUnless (shortReadVerdict file) (previewFirst (roadIn file) k l first second) first
 
 unfoldable pub previewFileSecond : List ℕ → ℕ → ℕ → List ℕ → List ℕ → List ℕ
-previewFileSecond file k l first second = keptUnless (readVerdict file) (previewSecond (roadIn file) k l first second) second
+previewFileSecond file k l first second = keptUnless (shortReadVerdict file) (previewSecond (roadIn file) k l first second) second

@@ -11,7 +11,7 @@ pub extern "C" fn vcp_change_length(file: &[u8], place: u32, length: u32, out: &
     ensures answer { λ r. ⌜ r ≡ signed (changeFileAnswer (now (file .entry)) place length (now (out .entry))) ⌝ }
     ensures list { λ _. ⌜ now (out .exit) ≡ changeFileList (now (file .entry)) place length (now (out .entry)) ⌝ }
 {
-    let read = file::read(file);
+    let read = file::read(file, terms::GREATEST_LONG_ROAD);
     let verdict = read.verdict;
     if let Verdict::Fault(number) = verdict {
         return terms::signed_answer(Answer::Refused(number));
@@ -36,7 +36,7 @@ pub extern "C" fn vcp_preview(
     ensures first { λ _. ⌜ now (before .exit) ≡ previewFileFirst (now (file .entry)) place length (now (before .entry)) (now (after .entry)) ⌝ }
     ensures second { λ _. ⌜ now (after .exit) ≡ previewFileSecond (now (file .entry)) place length (now (before .entry)) (now (after .entry)) ⌝ }
 {
-    let read = file::read(file);
+    let read = file::read(file, terms::GREATEST_SHORT_ROAD);
     let verdict = read.verdict;
     if let Verdict::Fault(refusal) = verdict {
         return terms::signed_answer(Answer::Refused(refusal));

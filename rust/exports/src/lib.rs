@@ -1,6 +1,6 @@
 //! The proved operations that the van does not call, safe to call from the command `vcp` and from the tests: the functions
-//! of the crates `curve_exports`, `sight_exports`, `marks_exports`, `passing_exports`, `file_exports`, `preview_exports` and
-//! `listing_exports`.
+//! of the crates `curve_exports`, `sight_exports`, `marks_exports`, `passing_exports`, `file_exports`, `road_exports`,
+//! `preview_exports` and `listing_exports`.
 //!
 //! Units are those of docs/RULES.md: metres along the road, h-units (tenths of a millimetre) for heights, hundredths of a
 //! percent for grades, uphill positive, and km/h; those of passing stand at [`Manoeuvre`].
@@ -14,19 +14,19 @@
 pub use refusal::Refusal;
 
 /// So many bytes of a road file are enough: the longest has one fewer, and of a longer one no more is needed.
-pub const ENOUGH_BYTES: usize = 209;
+pub const ENOUGH_BYTES: usize = 275;
 
 /// Bytes that hold any listing.
 pub const GREATEST_LISTING: usize = 280_092;
 
 /// The longest list of heights or marks.
-pub const GREATEST_LIST: usize = 8_001;
+pub const GREATEST_LIST: usize = 100_001;
 
-/// The stations of the longest road.
-pub const ROAD_STATIONS: usize = 8_001;
+/// The stations of the longest road of version 2.
+pub const LONG_STATIONS: usize = 100_001;
 
-/// The stations of the longest road that is marked and listed.
-pub const MARKED_STATIONS: usize = 8_001;
+/// The stations of the longest road of version 1, and of any that the listing, the preview and the van's marking take.
+pub const SHORT_STATIONS: usize = 8_001;
 
 /// The farthest distance that is looked at, in metres.
 pub const GREATEST_FARTHEST: u32 = 8_000;
@@ -86,10 +86,14 @@ extern "C" {
         list: *mut u8,
         list_length: usize,
     ) -> i64;
-    fn vcp_zones(marks: *const u8, marks_length: usize, bit: u32, list: *mut u16, list_length: usize) -> i64;
+    fn vcp_zones(marks: *const u8, marks_length: usize, bit: u32, list: *mut u32, list_length: usize) -> i64;
     fn vcp_rewrite(file: *const u8, file_length: usize, out: *mut u8, out_length: usize) -> i64;
     fn vcp_file_heights(file: *const u8, file_length: usize, list: *mut i32, list_length: usize) -> i64;
     fn vcp_file_downgrade(file: *const u8, file_length: usize) -> i64;
+    fn vcp_mark_file(file: *const u8, file_length: usize, marks: *mut u8, marks_length: usize) -> i64;
+    fn vcp_file_stopping(file: *const u8, file_length: usize) -> i64;
+    fn vcp_file_decision(file: *const u8, file_length: usize) -> i64;
+    fn vcp_short_stations(file: *const u8, file_length: usize) -> i64;
     fn vcp_change_length(
         file: *const u8,
         file_length: usize,
@@ -216,7 +220,7 @@ pub fn passing_marks(heights: &[i32], distance: u32, list: &mut [u8]) -> Result<
 /// # Errors
 /// Refused 22 if the bit number is over 6, 19 if the marks are none or more than [`GREATEST_LIST`], 23 if the list holds
 /// fewer than two numbers for each zone.
-pub fn zones(marks: &[u8], bit: u32, list: &mut [u16]) -> Result<u32, Refusal> {
+pub fn zones(marks: &[u8], bit: u32, list: &mut [u32]) -> Result<u32, Refusal> {
     // SAFETY: as for `sight_profile`.
     refusal::answer(unsafe { vcp_zones(marks.as_ptr(), marks.len(), bit, list.as_mut_ptr(), list.len()) })
 }
@@ -230,7 +234,7 @@ pub fn rewrite(file: &[u8], out: &mut [u8]) -> Result<u32, Refusal> {
     refusal::answer(unsafe { vcp_rewrite(file.as_ptr(), file.len(), out.as_mut_ptr(), out.len()) })
 }
 
-/// Reads a road file and fills the heights of its road, one a station. A list of [`ROAD_STATIONS`] holds any road's.
+/// Reads a road file and fills the heights of its road, one a station. A list of [`LONG_STATIONS`] holds any road's.
 ///
 /// # Errors
 /// Refused 1 to 13 and 25 as reading the file refuses it, then 14 if the list has fewer places than the road has stations.
@@ -251,6 +255,45 @@ pub fn file_grade(file: &[u8]) -> Result<i32, Refusal> {
     Ok(-(downgrade as i32))
 }
 
+/// Reads a road file of either version and writes the mark of each station of its road, from station 0 on; answers how many
+/// stations there are. `vcp::mark_road_file` says what the bits mean; that one takes no road over 8,000 m. A list of
+/// [`LONG_STATIONS`] holds any road's. The call needs about 410 KiB of the thread's stack.
+///
+/// # Errors
+/// Refused 1 to 13 and 25 as reading the file refuses it, then 14 if the list has fewer places than the road has stations.
+pub fn mark_file(file: &[u8], marks: &mut [u8]) -> Result<u32, Refusal> {
+    // SAFETY: as for `sight_profile`.
+    refusal::answer(unsafe { vcp_mark_file(file.as_ptr(), file.len(), marks.as_mut_ptr(), marks.len()) })
+}
+
+/// Reads a road file of either version and answers the distance in metres that its road needs to stop, on the grade that it is
+/// marked with.
+///
+/// # Errors
+/// Refused 1 to 13 and 25 as reading the file refuses it.
+pub fn file_stopping(file: &[u8]) -> Result<u32, Refusal> {
+    // SAFETY: as for `sight`.
+    refusal::answer(unsafe { vcp_file_stopping(file.as_ptr(), file.len()) })
+}
+
+/// The same of the distance that its road needs to decide, for its own purpose.
+///
+/// # Errors
+/// Refused as [`file_stopping`] is.
+pub fn file_decision(file: &[u8]) -> Result<u32, Refusal> {
+    // SAFETY: as for `sight`.
+    refusal::answer(unsafe { vcp_file_decision(file.as_ptr(), file.len()) })
+}
+
+/// Reads a road file as the listing, the preview and the van's marking do, and answers how many stations its road has.
+///
+/// # Errors
+/// Refused 1 to 13 and 25 as these refuse it: as reading does, but for 8, which they give to every road over 8,000 m.
+pub fn short_stations(file: &[u8]) -> Result<u32, Refusal> {
+    // SAFETY: as for `sight`.
+    refusal::answer(unsafe { vcp_short_stations(file.as_ptr(), file.len()) })
+}
+
 /// Reads a road file and writes the file of its road with another length, in metres, of the curve at a place, counted from 0. A
 /// buffer of as many bytes as the file has holds it.
 ///
@@ -264,11 +307,11 @@ pub fn change_length(file: &[u8], place: u32, length: u32, out: &mut [u8]) -> Re
 
 /// Reads a road file, marks its road into the first list, and into the second the road with another length, in metres, of the
 /// curve at a place, counted from 0; answers at how many stations the two differ. `vcp::mark_road_file` says what the bits mean.
-/// Each list has a mark for each station at its front, and what is behind stays; a list of [`MARKED_STATIONS`] holds any road's. The
+/// Each list has a mark for each station at its front, and what is behind stays; a list of [`SHORT_STATIONS`] holds any road's that is taken. The
 /// call needs about 40 KiB of the thread's stack.
 ///
 /// # Errors
-/// Refused 1 to 13 and 25 as reading the file refuses it, 26 if the place is beyond the last curve, 11 to 13 and 25 as the changed
+/// Refused 1 to 13 and 25 as [`short_stations`] is, 26 if the place is beyond the last curve, 11 to 13 and 25 as the changed
 /// road is refused, then 14 if either list has fewer places than the road has stations. Then both lists are what they were.
 pub fn preview(file: &[u8], place: u32, length: u32, before: &mut [u8], after: &mut [u8]) -> Result<u32, Refusal> {
     // SAFETY: as for `sight_profile`; the two mutable borrows do not overlap.

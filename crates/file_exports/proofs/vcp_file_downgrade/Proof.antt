@@ -28,7 +28,7 @@ returns : tie.Need-returns
 unfolding fileDowngrade
 returns c =
     let d = c .before .before in
-    let v = sym (verdict-read _ _ (d .before .before .read .ensures)) ∙ d .verdict .given .1 in
+    let v = sym (verdict-read _ _ _ (d .before .before .read .ensures)) ∙ d .verdict .given .1 in
     got w64 _ (c .signed-answer .ok) ∙ c .signed-answer .ensures ∙ rw v refl
 
 enum-told : tie.Need-enum-told
@@ -56,8 +56,8 @@ unfolding fileDowngrade
 returns-2 c =
     let t = c .before .before in
     let read = t .before .before .read in
-    let v = sym (verdict-read _ _ (read .ensures)) ∙ t .enum-told .given .1 in
-    let road = road-read _ _ (read .ensures) v in
+    let v = sym (verdict-read _ _ _ (read .ensures)) ∙ t .enum-told .given .1 in
+    let road = road-read _ _ _ (read .ensures) v in
     let low = least-grade-not-positive (gradesOf (read .result .road)) in
     rw (v, ← road) (opposite c ∙ rw (c .road-grade .ensures) (neg-natAbs _ low))
 

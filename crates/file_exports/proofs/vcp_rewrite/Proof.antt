@@ -23,7 +23,7 @@ unfolding rewriteAnswer rewriteList
 returns c =
     let d = c .before .before in
     let r = d .before .before in
-    let v = sym (verdict-read _ _ (r .read .ensures)) ∙ d .verdict .given .1 in
+    let v = sym (verdict-read _ _ _ (r .read .ensures)) ∙ d .verdict .given .1 in
     (got w64 _ (c .signed-answer .ok) ∙ c .signed-answer .ensures ∙ rw v refl, rw v refl)
 
 enum-told : tie.Need-enum-told
@@ -44,8 +44,8 @@ returns-2 c =
     let h = c .before .before .before in
     let t = h .before .before .before in
     let r = t .before .before in
-    let v = sym (verdict-read _ _ (r .read .ensures)) ∙ t .enum-told .given .1 in
-    let q = road-read _ _ (r .read .ensures) v in
+    let v = sym (verdict-read _ _ _ (r .read .ensures)) ∙ t .enum-told .given .1 in
+    let q = road-read _ _ _ (r .read .ensures) v in
     let e = h .write .ensures in
     rw (v, ← q) (got w64 _ (c .signed-answer2 .ok) ∙ c .signed-answer2 .ensures ∙ ap signed (e .0), e .1)
 

@@ -4,6 +4,7 @@ use Prim.Native.Nat.{ℕ}
 use mathlib.Core.Path.{sym, subst}
 use borrow.Author.Needs.{needs}
 use lib.ListN.{length-replicate}
+use Rattle.file.specs.File.{stationBytes}
 use Rattle.listing.specs.Listing.{HoldsListings}
 use Rattle.listing.proofs.Front.{listing-front}
 use Rattle.listing.proofs.Longest.{listing-at-most}
@@ -14,6 +15,7 @@ slice-aggregate-read-file : tie.Need-slice-aggregate-read-file
 slice-aggregate-read-file c = search needs
 
 read-file-requires : tie.Need-read-file-requires
+unfolding stationBytes
 read-file-requires c κs = rw (length-replicate {A = ℕ} _ 0) listing-front
 
 array-share-prefix-bytes : tie.Need-array-share-prefix-bytes

@@ -31,7 +31,7 @@ unfolding changeFileAnswer changeFileList changeFileVerdict
 returns c =
     let d = c .before .before in
     let r = d .before .before in
-    let v = sym (verdict-read _ _ (r .read .ensures)) ∙ d .verdict .given .1 in
+    let v = sym (verdict-read _ _ _ (r .read .ensures)) ∙ d .verdict .given .1 in
     (got w64 _ (c .signed-answer .ok) ∙ c .signed-answer .ensures ∙ rw v refl, rw v refl)
 
 enum-told : tie.Need-enum-told
@@ -46,12 +46,12 @@ module _ (c : tie.After-change-verdict) where
   start = told .before .before .before .before .before
 
   accepted : readVerdict (start .args .file .now) ≡ Accepted
-  accepted = sym (verdict-read _ _ (told .before .before .read .ensures)) ∙ told .enum-told .given .1
+  accepted = sym (verdict-read _ _ _ (told .before .before .read .ensures)) ∙ told .enum-told .given .1
 
   verdict : let a = start .args in changeVerdict (roadIn (a .file .now)) (a .place) (a .length) ≡ c .change-verdict .result
   verdict =
       let a = start .args in
-      sym (c .change-verdict .ensures ∙ ap (λ (r : Road). changeVerdict r (a .place) (a .length)) (road-read _ _ (told .before .before .read .ensures) accepted))
+      sym (c .change-verdict .ensures ∙ ap (λ (r : Road). changeVerdict r (a .place) (a .length)) (road-read _ _ _ (told .before .before .read .ensures) accepted))
 
 change-verdict-requires : tie.Need-change-verdict-requires
 change-verdict-requires c κs = search needs
@@ -93,7 +93,7 @@ returns-3 : tie.Need-returns-3
 unfolding changeFileAnswer changeFileList changeFileVerdict
 returns-3 c =
     let h = c .before .before .before in let w = h .before .before in let v = w .before .before .before in
-    let a = start v .args in let road = road-read _ _ (told v .before .before .read .ensures) (accepted v) in
+    let a = start v .args in let road = road-read _ _ _ (told v .before .before .read .ensures) (accepted v) in
     let changed = w .with-length .ensures ∙ ap (λ (r : Road). withLength r (a .place) (a .length)) road in
     let e = h .write .ensures in
     rw (accepted v, verdict v ∙ w .before .enum-told2 .given .1, ← changed)

@@ -1,0 +1,60 @@
+// What a road file's road needs and how it is marked, exported for the command vcp and the tests. An answer is a signed number, and a
+// refusal is minus its number.
+ghost use mathlib.Core.Path.{_≡_};
+ghost use Rattle.terms.specs.Answers.{signed};
+ghost use Rattle.terms.specs.Limits.{greatestLongRoad};
+ghost use Rattle.road_marks.specs.RoadMarks.{markFileAnswer, markFileList};
+ghost use Rattle.road_exports.specs.RoadExports.{fileStopping, fileDecision, shortStations};
+use terms::Answer;
+use terms::Verdict;
+
+// The van's function of another name takes no road over 8,000 m.
+#[no_mangle]
+pub extern "C" fn vcp_mark_file(file: &[u8], marks: &mut [u8]) -> i64
+    ensures answer { λ r. ⌜ r ≡ signed (markFileAnswer greatestLongRoad (now (file .entry)) (now (marks .entry))) ⌝ }
+    ensures list { λ _. ⌜ now (marks .exit) ≡ markFileList greatestLongRoad (now (file .entry)) (now (marks .entry)) ⌝ }
+{
+    terms::signed_answer(road_marks::mark_road_file(file, marks))
+}
+
+#[no_mangle]
+pub extern "C" fn vcp_file_stopping(file: &[u8]) -> i64
+    ensures { λ r. ⌜ r ≡ signed (fileStopping (now (file .entry))) ⌝ }
+{
+    let read = file::read(file, terms::GREATEST_LONG_ROAD);
+    let verdict = read.verdict;
+    if let Verdict::Fault(number) = verdict {
+        return terms::signed_answer(Answer::Refused(number));
+    }
+    let road = read.road;
+    let needed = road_distances::road_distances(road);
+    terms::signed_answer(Answer::Number(needed.stopping))
+}
+
+#[no_mangle]
+pub extern "C" fn vcp_file_decision(file: &[u8]) -> i64
+    ensures { λ r. ⌜ r ≡ signed (fileDecision (now (file .entry))) ⌝ }
+{
+    let read = file::read(file, terms::GREATEST_LONG_ROAD);
+    let verdict = read.verdict;
+    if let Verdict::Fault(number) = verdict {
+        return terms::signed_answer(Answer::Refused(number));
+    }
+    let road = read.road;
+    let needed = road_distances::road_distances(road);
+    terms::signed_answer(Answer::Number(needed.decision))
+}
+
+// The stations of a road that the lister, the preview and the van's marking take.
+#[no_mangle]
+pub extern "C" fn vcp_short_stations(file: &[u8]) -> i64
+    ensures { λ r. ⌜ r ≡ signed (shortStations (now (file .entry))) ⌝ }
+{
+    let read = file::read(file, terms::GREATEST_SHORT_ROAD);
+    let verdict = read.verdict;
+    if let Verdict::Fault(number) = verdict {
+        return terms::signed_answer(Answer::Refused(number));
+    }
+    let road = read.road;
+    terms::signed_answer(Answer::Number(road.length + 1))
+}
