@@ -4,9 +4,9 @@ use mathlib.Core.Path.{_≡_}
 use mathlib.Core.List.{List, [], _∷_, _++_}
 use Prim.Native.Nat.{ℕ, _*_, _-_, _/_}
 use lib.IntN.{ℤ, pos, negℤ}
-use lib.ListN.{length, getD, replicate}
-use Rattle.terms.specs.Limits.{stoppingPurpose, greatestCurveCount, eyeHeight, objectHeight}
-use Rattle.terms.specs.Refusals.{curveOrderRefused, roomRefused, sharpBreakRefused, noCurveRefused}
+use lib.ListN.{length, take, getD, replicate}
+use Rattle.terms.specs.Limits.{firstVersion, secondVersion, stoppingPurpose, greatestCurveCount, eyeHeight, objectHeight}
+use Rattle.terms.specs.Refusals.{shortFileRefused, versionRefused, totalRefused, speedRefused, roadLengthRefused, startRefused, curveOrderRefused, roomRefused, sharpBreakRefused, noCurveRefused}
 use Rattle.terms.specs.declared.Answer.{Answer}
 use Rattle.terms.specs.declared.Answer.the-variants.{Number, Refused}
 use Rattle.terms.specs.declared.Verdict.the-variants.{Accepted, Fault}
@@ -16,7 +16,10 @@ use Rattle.distance.specs.PassingDistance.{passingMetre, passingParts, passingD
 use Rattle.curve_lengths.specs.Lengths.{crestAdequate, sagAdequate, leastLength, crestLength, sagLength}
 use Rattle.road.specs.declared.Curve.{Curve}
 use Rattle.road.specs.declared.Road.{Road}
-use Rattle.road.specs.Road.{noCurve, roadVerdict}
+use Rattle.road.specs.Road.{noCurve, roadVerdict, shortRoadVerdict}
+use Rattle.file.specs.File.{fileLength, letters, roadIn}
+use Rattle.file.specs.Reading.{readVerdict, shortReadVerdict}
+use Rattle.heights.specs.Profile.{storedHeight}
 use Rattle.heights.specs.Heights.{ownHeights}
 use Rattle.sight.specs.Operations.{sightAnswer}
 use Rattle.change.specs.Change.{changeVerdict}
@@ -27,17 +30,26 @@ use Rattle.passing.specs.Passing.{passingList}
 unfoldable pub curve : ℕ → ℕ → ℤ → Curve
 curve p l g = record { pvi = p; length = l; «grade_out» = g }
 
--- start 0 and decision A, with this speed, this N, this first grade and these curves
-unfoldable pub roadFor : ℕ → ℕ → ℤ → List Curve → Road
-roadFor v n g cs = record {
+-- decision A, of this version, with this speed, this N, this start height, this first grade and these curves
+unfoldable pub roadFrom : ℕ → ℕ → ℕ → ℤ → ℤ → List Curve → Road
+roadFrom version v n z g cs = record {
+  version = version;
   speed = v;
   purpose = 1;
   length = n;
-  «start_height» = pos 0;
+  «start_height» = z;
   «first_grade» = g;
   count = length cs;
   curves = cs ++ replicate (greatestCurveCount - length cs) noCurve;
 }
+
+-- start 0
+unfoldable pub roadOfVersion : ℕ → ℕ → ℕ → ℤ → List Curve → Road
+roadOfVersion version v n g cs = roadFrom version v n (pos 0) g cs
+
+-- of version 1
+unfoldable pub roadFor : ℕ → ℕ → ℤ → List Curve → Road
+roadFor v n g cs = roadOfVersion firstVersion v n g cs
 
 -- at 80 km/h, N 100
 unfoldable pub roadOf : ℤ → List Curve → Road
@@ -62,6 +74,23 @@ crestAndSag = roadOf (pos 300) (curve 30 20 (negℤ (pos 300)) ∷ curve 60 20 (
 -- at 20 km/h, N 40, first grade 900, a crest of 2 m with PVI 20 and grade −900
 unfoldable pub shortCrest : Road
 shortCrest = roadFor 20 40 (pos 900) (curve 20 2 (negℤ (pos 900)) ∷ [])
+
+-- a level road of this version and length at this speed
+unfoldable pub levelRoad : ℕ → ℕ → ℕ → Road
+levelRoad version v n = roadOfVersion version v n (pos 0) []
+
+-- at 80 km/h, with a start height that is out of its range
+unfoldable pub highRoad : ℕ → ℕ → Road
+highRoad version n = roadFrom version 80 n (pos 90000001) (pos 0) []
+
+-- a file of version 2, N 100,000, first grade 300, one curve with PVI 70,000, length 20 and grade −300
+unfoldable pub valleyFile : List ℕ
+valleyFile =
+    letters ++ (2 ∷ 0 ∷ 80 ∷ 1 ∷ 160 ∷ 134 ∷ 1 ∷ 0 ∷ 0 ∷ 0 ∷ 0 ∷ 0 ∷ 44 ∷ 1 ∷ 1 ∷ []) ++ (112 ∷ 17 ∷ 1 ∷ 0 ∷ 20 ∷ 0 ∷ 212 ∷ 254 ∷ [])
+
+-- the first 16 bytes of a file of another version
+unfoldable pub otherFile : ℕ → List ℕ
+otherFile version = letters ++ (version ∷ []) ++ replicate 12 0
 
 -- the least even adequate length of a crest with this drop and sight distance, whatever the speed is: e = 10,800 and o = 6,000
 unfoldable pub leastAdequate : ℕ → ℕ → Answer
@@ -127,6 +156,36 @@ pub record StarredCases : Type 0 where
       × (roadVerdict (breaksRoad 351 351) ≡ Fault sharpBreakRefused)
       × (roadVerdict (breaksRoad 250 301) ≡ Fault sharpBreakRefused)
       × (roadVerdict (crestRoad 0) ≡ Fault sharpBreakRefused)
+  -- The road and its heights: the longest roads of both versions, and a metre more; versions that are neither; and what the lister, the
+  -- preview and the van's marking take of version 2, with 8 in its place behind 7 and before 9
+  pub versions :
+      (roadVerdict (levelRoad 1 80 8000) ≡ Accepted)
+      × (roadVerdict (levelRoad 1 80 8001) ≡ Fault roadLengthRefused)
+      × (roadVerdict (levelRoad 2 80 100000) ≡ Accepted)
+      × (roadVerdict (levelRoad 2 80 100001) ≡ Fault roadLengthRefused)
+      × (roadVerdict (levelRoad 0 19 0) ≡ Fault versionRefused)
+      × (roadVerdict (levelRoad 3 80 100) ≡ Fault versionRefused)
+      × (roadVerdict (roadOfVersion 3 80 100 (pos 0) (replicate 33 noCurve)) ≡ Fault versionRefused)
+      × (shortRoadVerdict (levelRoad 2 80 8000) ≡ Accepted)
+      × (shortRoadVerdict (levelRoad 2 80 8001) ≡ Fault roadLengthRefused)
+      × (shortRoadVerdict (levelRoad 2 19 8001) ≡ Fault speedRefused)
+      × (shortRoadVerdict (highRoad 2 8001) ≡ Fault roadLengthRefused)
+      × (roadVerdict (highRoad 2 8001) ≡ Fault startRefused)
+  -- Road file: one of version 2, its road's numbers and two of its heights; its header cut short by a byte and by three; the lengths of
+  -- files; a version that is neither, also where a byte of the header is missing
+  pub files :
+      (readVerdict valleyFile ≡ Accepted)
+      × (shortReadVerdict valleyFile ≡ Fault roadLengthRefused)
+      × (roadIn valleyFile ≡ roadOfVersion 2 80 100000 (pos 300) (curve 70000 20 (negℤ (pos 300)) ∷ []))
+      × (storedHeight (roadIn valleyFile) 70000 ≡ pos 20998500)
+      × (storedHeight (roadIn valleyFile) 100000 ≡ pos 12000000)
+      × (readVerdict (take 17 valleyFile) ≡ Fault shortFileRefused)
+      × (readVerdict (take 15 valleyFile) ≡ Fault shortFileRefused)
+      × (readVerdict (take 18 valleyFile) ≡ Fault totalRefused)
+      × (fileLength firstVersion greatestCurveCount ≡ 208)
+      × (fileLength secondVersion greatestCurveCount ≡ 274)
+      × (readVerdict (otherFile 3) ≡ Fault versionRefused)
+      × (readVerdict (take 15 (otherFile 3)) ≡ Fault shortFileRefused)
   -- Trying another length: a longer curve; places beyond the one curve, also with an odd length; no length left; up to the sag, and into
   -- it; and a road that is refused as it is, at a place beyond its curve, and where the length would mend it
   pub changes :
