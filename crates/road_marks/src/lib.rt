@@ -73,8 +73,8 @@ pub fn mark_short_road_file(file: &[u8], list: &mut [u8]) -> Answer
 {
     let read = file::read(file, terms::GREATEST_SHORT_ROAD);
     let verdict = read.verdict;
-    if let Verdict::Fault(fault) = verdict {
-        return Answer::Refused(fault);
+    if let Verdict::Fault(refusal) = verdict {
+        return Answer::Refused(refusal);
     }
     mark_short_road(read.road, list)
 }

@@ -80,7 +80,7 @@ module _ (c : tie.After-file-length2) where
   file = given (long told)
 
   header-is : c .file-length2 .result ≡ fileLength (versionIn file) 0
-  header-is = rw (told .before .number-at .ensures .0) at (c .file-length2 .ensures)
+  header-is = c .file-length2 .ensures ∙ ap (λ v. fileLength v 0) (told .before .number-at .ensures .0)
 
   past-version : headerVerdict file ≡ fault (ltb (length file) (fileLength (versionIn file) 0)) shortFileRefused
       (fault (ltb greatestCurveCount (curveCount file)) curveCountRefused

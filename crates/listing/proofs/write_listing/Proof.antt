@@ -3,7 +3,7 @@ use mathlib.Core.Path.{_≡_, sym, _∙_}
 use borrow.Author.Needs.{needs}
 use Rattle.terms.specs.Limits.{greatestShortRoad}
 use Rattle.terms.specs.declared.Verdict.the-variants.{Accepted}
-use Rattle.file.specs.Reading.{shortReadVerdict}
+use Rattle.file.specs.Reading.{shortReadVerdict, readUpTo}
 use Rattle.file.proofs.Sound.{accepted-file, verdict-read, road-read}
 use Rattle.listing.specs.Listing.{listing}
 use Rattle.listing.proofs.write_listing.Statement.{statement}
@@ -11,6 +11,10 @@ use Rattle.listing.proofs.write_listing.Tie as tie
 
 read-requires : tie.Need-read-requires
 read-requires c κs = search needs
+
+-- what was read, where no road over 8,000 m is taken
+short : (c : tie.After-read) → c .read .result ≡ readUpTo greatestShortRoad (c .before .before .before .args .file .now)
+short c = c .read .ensures
 
 enum-known-verdict : tie.Need-enum-known-verdict
 enum-known-verdict c = search needs
@@ -34,7 +38,7 @@ returns : tie.Need-returns
 unfolding listing
 returns c =
     let w = c .before .before in let v = w .before .before .before .before .before in
-    rw (← v .before .before .read .ensures, v .verdict .given .1) (w .write-line .ensures)
+    rw (← short (v .before .before), v .verdict .given .1) (w .write-line .ensures)
 
 enum-told : tie.Need-enum-told
 enum-told c = search needs
@@ -53,7 +57,7 @@ returns-2 : tie.Need-returns-2
 unfolding listing
 returns-2 c =
     let w = c .before .before in let t = w .before .before in
-    rw (← t .before .before .read .ensures, t .enum-told .given .1) (w .write-road .ensures)
+    rw (← short (t .before .before), t .enum-told .given .1) (w .write-road .ensures)
 
 pub write-listing-spec : {M : Type 1} → statement M
 write-listing-spec =

@@ -29,7 +29,7 @@ returns : tie.Need-returns
 unfolding shortStations
 returns c =
     let d = c .before .before in
-    let v = sym (verdict-read _ _ _ (d .before .before .read .ensures)) ∙ d .verdict .given .1 in
+    let v = sym (verdict-read greatestShortRoad _ _ (d .before .before .read .ensures)) ∙ d .verdict .given .1 in
     got w64 _ (c .signed-answer .ok) ∙ c .signed-answer .ensures ∙ rw v refl
 
 enum-told : tie.Need-enum-told
@@ -41,7 +41,7 @@ module _ (c : tie.After-enum-told) where
   file = c .before .before .before .before .args .file .now
 
   taken : shortReadVerdict file ≡ Accepted
-  taken = sym (verdict-read _ _ _ (c .before .before .read .ensures)) ∙ c .enum-told .given .1
+  taken = sym (verdict-read greatestShortRoad _ _ (c .before .before .read .ensures)) ∙ c .enum-told .given .1
 
   same-road : c .before .before .read .result .road ≡ roadIn file
   same-road = road-read greatestShortRoad _ _ (c .before .before .read .ensures) taken
