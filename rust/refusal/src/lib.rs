@@ -20,14 +20,15 @@ pub struct Refusal {
 
 /// The reasons of refusals 1 to 26, in order.
 const REASONS: [&str; 26] = [
-    "the file has fewer than 16 bytes",
+    "the file has fewer than 16 bytes, or fewer than 18 in version 2",
     "the file does not begin with the letters VCP",
-    "the file's version is not 1",
+    "the version is neither 1 nor 2",
     "there are more than 32 curves",
-    "the file's total length is not 16 bytes and 6 for each curve",
+    "the file's total length is not 16 bytes and 6 for each curve, or 18 and 8 in version 2",
     "the speed is not 20 to 130 km/h",
     "the purpose is not 0 to 5, or that of a road is not 1 to 5",
-    "the road's length is not 1 to 8,000 m",
+    "the road's length is not 1 to 8,000 m, or to 100,000 m in version 2; the listing, the preview and the van take no road \
+     over 8,000 m",
     "the start height is not -10,000,000 to 90,000,000 h-units (-1,000 to 9,000 m)",
     "a grade is not -1,500 to 1,500 hundredths of a percent (-15 to 15 %)",
     "a curve's length is odd or over 2,000 m",
@@ -38,7 +39,7 @@ const REASONS: [&str; 26] = [
     "the sight distance is not 1 to 800 m",
     "the height of eye or object is not 1 to 50,000 h-units (0.0001 to 5 m)",
     "no even length up to 2,000 m is adequate",
-    "the list of heights or marks is empty or longer than 8,001",
+    "the list of heights or marks is empty or longer than 100,001",
     "the station is beyond the last",
     "the farthest or the passing distance is not 1 to 8,000 m",
     "the bit number is over 6",

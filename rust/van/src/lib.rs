@@ -36,7 +36,8 @@ pub const STOPPING_NOT_JUDGED: u8 = 1 << 3;
 /// Bit 4 of a mark, letter d: the station is not judged for the decision, as the road ends too soon after it.
 pub const DECISION_NOT_JUDGED: u8 = 1 << 4;
 
-/// As many stations as a road that is marked can have: marks of this length have a place for each station of any such road.
+/// As many stations as a road that [`mark_road_file`] takes can have, of either version: marks of this length have a place for
+/// each station of any such road.
 pub const MOST_STATIONS: usize = 8_001;
 
 // A test compares these declarations with crates/van/src/lib.rt.
@@ -102,8 +103,8 @@ pub fn crest_length(speed: u32, drop: u32, sight: u32, eye: u32, object: u32) ->
 }
 
 /// Writes the mark of each station of a road file's road, from station 0 on, and answers how many stations there are. Places
-/// beyond those stay as they were. Marks of [`MOST_STATIONS`] places are enough for any road. The call needs about 40 KiB of
-/// the thread's stack.
+/// beyond those stay as they were. The file is of version 1 or 2, and its road has at most 8,000 m, also in version 2: marks of
+/// [`MOST_STATIONS`] places are enough for any. The call needs about 40 KiB of the thread's stack.
 ///
 /// The distances are those on the least of the road's grades, the first one included, or on grade 0 if none is negative.
 ///
@@ -118,8 +119,8 @@ pub fn crest_length(speed: u32, drop: u32, sight: u32, eye: u32, object: u32) ->
 /// | 4 | d | [`DECISION_NOT_JUDGED`] |
 ///
 /// # Errors
-/// Refused 1 to 13 and 25 as reading the file refuses it, then 14 if the marks have fewer places than the road has stations. The
-/// marks are then as they were.
+/// Refused 1 to 13 and 25 as reading the file refuses it, 8 also for a road of version 2 over 8,000 m, then 14 if the marks have
+/// fewer places than the road has stations. The marks are then as they were.
 ///
 /// ```
 /// // 20 km/h, decision A, 300 m; from height 0 it rises by 15 %, and behind a crest from station 99 to 101 it falls by 15 %.
@@ -140,6 +141,25 @@ pub fn crest_length(speed: u32, drop: u32, sight: u32, eye: u32, object: u32) ->
 /// // One place too few, and a byte that is missing.
 /// assert_eq!(vcp::mark_road_file(&file, &mut marks[..300]).unwrap_err().number(), 14);
 /// assert_eq!(vcp::mark_road_file(&file[..21], &mut marks).unwrap_err().number(), 5);
+/// ```
+///
+/// The same road as a file of version 2, which has four bytes for the road's length and for the curve's place:
+///
+/// ```
+/// let mut file = [
+///     0x56, 0x43, 0x50, 0x02, 0x00, 0x14, 0x01, 0x2C, 0x01, 0x00, 0x00, 0x00, 0x00, 0x00, 0x00, 0xDC, 0x05, 0x01,
+///     0x64, 0x00, 0x00, 0x00, 0x02, 0x00, 0x24, 0xFA,
+/// ];
+/// let mut marks = [0; vcp::MOST_STATIONS];
+/// assert_eq!(vcp::mark_road_file(&file, &mut marks), Ok(301));
+/// let lacking = (0..301).filter(|&station| marks[station] & vcp::STOPPING_LACKING != 0);
+/// assert!(lacking.eq(78..=95));
+///
+/// // 8,000 m are taken, and one more is not.
+/// file[7..11].copy_from_slice(&8_000_u32.to_le_bytes());
+/// assert_eq!(vcp::mark_road_file(&file, &mut marks), Ok(8_001));
+/// file[7..11].copy_from_slice(&8_001_u32.to_le_bytes());
+/// assert_eq!(vcp::mark_road_file(&file, &mut marks).unwrap_err().number(), 8);
 /// ```
 pub fn mark_road_file(file: &[u8], marks: &mut [u8]) -> Result<u32, Refusal> {
     // SAFETY: each pointer is that of a slice and comes with the slice's own length, so it is not null, and all its bytes
