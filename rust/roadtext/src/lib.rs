@@ -14,6 +14,8 @@
 //!
 //! - Each line holds one item; blank lines, all that follows a `#` and a byte-order mark in front are passed over.
 //! - Speed, purpose, length, start height and first grade stand once each, in any order.
+//! - A line `version 2` asks for a road file of version 2, which may have a longer road; `version 1`, and a text without such a
+//!   line, ask for one of version 1. It may stand anywhere, once.
 //! - Curves are those of the road in their order, each with its PVI, its length and its grade out between commas.
 //! - A number is decimal digits, after a minus if it is negative; a space and its unit follow, as above.
 //! - The start height may have up to 4 decimals after a point, and a grade up to 2. All other numbers are whole.
@@ -29,7 +31,7 @@ use std::fmt;
 
 use exports::{Refusal, ENOUGH_BYTES};
 
-use crate::field::{Field, CURVE, HEAD};
+use crate::field::{Field, Layout, CURVE, FIRST_VERSION, HEAD, VERSION};
 use crate::lines::{read_lines, Road};
 
 pub mod decimal;
@@ -75,7 +77,7 @@ pub fn road_file(text: &str) -> Result<Vec<u8>, Vec<Fault>> {
     road.judged_file().map_err(|fault| vec![fault])
 }
 
-/// The text of a road file. [`road_file`] turns it into the same bytes again.
+/// The text of a road file. [`road_file`] turns it into the same bytes again. The version is said where it is not 1.
 ///
 /// # Errors
 /// The proved reader's refusal of the file.
@@ -84,12 +86,18 @@ pub fn road_file(text: &str) -> Result<Vec<u8>, Vec<Fault>> {
 /// let text = roadtext::road_text(b"VCP\x01\0\x50\x01\xE8\x03\x39\x30\0\0\xFB\xFF\0").unwrap();
 /// assert_eq!(text, "speed 80 km/h\npurpose 1\nlength 1000 m\nstart height 1.2345 m\nfirst grade -0.05 %\n");
 ///
+/// let longer = roadtext::road_text(b"VCP\x02\0\x50\x01\xA0\x86\x01\0\x39\x30\0\0\xFB\xFF\0").unwrap();
+/// assert_eq!(longer, format!("version 2\n{}", text.replace("1000 m", "100000 m")));
+///
 /// assert_eq!(roadtext::road_text(b"VCP").unwrap_err().number(), 1);
 /// ```
 pub fn road_text(file: &[u8]) -> Result<String, Refusal> {
     let road = road_numbers(file)?;
     let mut text = String::new();
-    for (field, number) in HEAD.iter().zip(road.head) {
+    // A text that names no version is of the first one.
+    let [version, ..] = road.head;
+    let unsaid = usize::from(version == FIRST_VERSION);
+    for (field, number) in HEAD.iter().zip(road.head).skip(unsaid) {
         text += &format!("{} {}\n", field.name, field.text(number));
     }
     if !road.curves.is_empty() {
@@ -105,8 +113,8 @@ pub fn road_text(file: &[u8]) -> Result<String, Refusal> {
 /// The numbers of a road, in the file's units and in its order.
 #[derive(Clone, Debug, PartialEq, Eq)]
 pub struct Numbers {
-    /// Speed, purpose, length, start height and first grade.
-    pub head: [i64; 5],
+    /// Version, speed, purpose, length, start height and first grade.
+    pub head: [i64; 6],
     /// The PVI, the length and the grade out of each curve.
     pub curves: Vec<[i64; 3]>,
 }
@@ -117,15 +125,24 @@ pub struct Numbers {
 /// The proved reader's refusal of the file.
 pub fn road_numbers(file: &[u8]) -> Result<Numbers, Refusal> {
     accept(file)?;
-    let curves = file[HEAD_BYTES..].chunks_exact(CURVE_BYTES).map(|record| numbers(&CURVE, record));
-    Ok(Numbers { head: numbers(&HEAD, &file[START.len()..]), curves: curves.collect() })
+    let behind_letters = &file[LETTERS.len()..];
+    // The version stands there in every layout.
+    let ([version], _) = numbers(&[VERSION], Layout::ROOMIEST, behind_letters);
+    let layout = Layout::of(version);
+    let (head, rest) = numbers(&HEAD, layout, behind_letters);
+    let mut curves = Vec::new();
+    // Behind the byte that counts them there are the curves and nothing else.
+    let mut rest = &rest[1..];
+    while !rest.is_empty() {
+        let (curve, behind) = numbers(&CURVE, layout, rest);
+        curves.push(curve);
+        rest = behind;
+    }
+    Ok(Numbers { head, curves })
 }
 
-/// Whether the proved reader accepts a road file. What it accepts the proved writer writes again, and these bytes are answered.
-///
-/// # Errors
-/// Its refusal.
-pub fn accept(file: &[u8]) -> Result<Vec<u8>, Refusal> {
+/// What the proved writer writes of a road file that the proved reader accepts, which are the same bytes.
+fn accept(file: &[u8]) -> Result<Vec<u8>, Refusal> {
     let mut written = [0; ENOUGH_BYTES];
     let length = exports::rewrite(file, &mut written)?;
     Ok(written[..length as usize].to_vec())
@@ -134,41 +151,42 @@ pub fn accept(file: &[u8]) -> Result<Vec<u8>, Refusal> {
 /// What some programs put at the front of a text.
 pub const BYTE_ORDER_MARK: char = '\u{feff}';
 
-/// The letters and the version that a road file begins with.
-const START: [u8; 5] = *b"VCP\x01\x00";
+/// The letters that a road file begins with.
+const LETTERS: &[u8] = b"VCP";
 
-/// The bytes before the curves, the last of which is the number of curves, and those of a curve.
-const HEAD_BYTES: usize = 16;
-const CURVE_BYTES: usize = 6;
-
-/// The numbers that these bytes begin with.
-fn numbers<const MANY: usize>(fields: &[Field; MANY], mut bytes: &[u8]) -> [i64; MANY] {
-    fields.map(|field| {
-        let (own, others) = bytes.split_at(field.bytes);
-        bytes = others;
-        field.number(own)
-    })
+/// The numbers that these bytes begin with, and the bytes behind them.
+fn numbers<'a, const MANY: usize>(
+    fields: &[Field; MANY],
+    layout: Layout,
+    mut bytes: &'a [u8],
+) -> ([i64; MANY], &'a [u8]) {
+    let numbers = fields.map(|field| {
+        let (own, behind) = bytes.split_at(field.bytes(layout));
+        bytes = behind;
+        field.number(own, layout)
+    });
+    (numbers, bytes)
 }
 
 impl Road {
     /// The road file with the first so many curves. More than a byte can count are counted as 255, which is refused.
     fn file(&self, curves: usize) -> Vec<u8> {
-        let mut file = START.to_vec();
+        let mut file = LETTERS.to_vec();
         for (field, number) in HEAD.iter().zip(&self.head) {
-            file.extend(field.file_bytes(number.item));
+            file.extend(field.file_bytes(number.item, self.layout));
         }
         file.push(u8::try_from(curves).unwrap_or(u8::MAX));
         for curve in &self.curves[..curves] {
             for (field, number) in CURVE.iter().zip(curve.item) {
-                file.extend(field.file_bytes(number));
+                file.extend(field.file_bytes(number, self.layout));
             }
         }
         file
     }
 
-    /// The road file, if the proved reader accepts it. The number of curves is judged first, then the numbers before
-    /// the curves, then curve by curve. So the last of the fewest first curves that are refused by the same number is
-    /// at fault; or, where that is no curve at all, a number before them.
+    /// The road file, if the proved reader accepts it. The version is judged first, then the number of curves, then the
+    /// other numbers before the curves, then curve by curve. So the last of the fewest first curves that are refused by the
+    /// same number is at fault; or, where that is no curve at all, a number before them.
     fn judged_file(&self) -> Result<Vec<u8>, Fault> {
         let all = self.curves.len();
         let refusal = match accept(&self.file(all)) {
@@ -177,11 +195,12 @@ impl Road {
         };
         let curves = (0..all).find(|&curves| accept(&self.file(curves)) == Err(refusal)).unwrap_or(all);
         let line = match (curves, refusal.number()) {
-            (0, 6) => self.head[0].line,
-            (0, 7) => self.head[1].line,
-            (0, 8) => self.head[2].line,
-            (0, 9) => self.head[3].line,
-            (0, _) => self.head[4].line,
+            (0, 3) => self.head[0].line,
+            (0, 6) => self.head[1].line,
+            (0, 7) => self.head[2].line,
+            (0, 8) => self.head[3].line,
+            (0, 9) => self.head[4].line,
+            (0, _) => self.head[5].line,
             (_, _) => self.curves[curves - 1].line,
         };
         Err(Fault { line, reason: refusal.to_string(), refused: true })

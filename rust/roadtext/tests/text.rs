@@ -25,16 +25,18 @@ fn decimal(random: &mut Random, number: i64, decimals: usize) -> String {
     text
 }
 
-/// A text, and the lines where speed, purpose, length, start height and first grade stand, and those of the curves.
+/// A text, and the lines where version, speed, purpose, length, start height and first grade stand, and those of the curves.
 struct Written {
     text: String,
-    head: [usize; 5],
+    head: [usize; 6],
     curves: Vec<usize>,
 }
 
-/// Writes a road in its own way: the lines in any order that keeps that of the curves, with other lines between.
+/// Writes a road in its own way: the lines in any order that keeps that of the curves, with other lines between. Version 1 is
+/// said or not.
 fn write(random: &mut Random, road: &Road) -> Written {
     let head = [
+        format!("version {}", road.version),
         format!("speed {} km/h", road.speed),
         format!("purpose {}", road.purpose),
         format!("length {} m", road.length),
@@ -46,16 +48,17 @@ fn write(random: &mut Random, road: &Road) -> Written {
         format!("curve {} m, {} m, {grade_out} %", curve.pvi, curve.length)
     });
     let curves: Vec<String> = curves.collect();
-    let mut order: Vec<(usize, String)> = head.into_iter().enumerate().collect();
-    for place in (1..5).rev() {
+    let unsaid = usize::from(road.version == 1 && random.once_in(2));
+    let mut order: Vec<(usize, String)> = head.into_iter().enumerate().skip(unsaid).collect();
+    for place in (1..order.len()).rev() {
         order.swap(place, random.within(0..=place as u32) as usize);
     }
-    let mut written = Written { text: String::new(), head: [0; 5], curves: vec![] };
+    let mut written = Written { text: String::new(), head: [0; 6], curves: vec![] };
     let mut line = 1;
     let (mut head, mut curves) = (order.into_iter().peekable(), curves.into_iter().peekable());
     while head.peek().is_some() || curves.peek().is_some() {
         match random.within(0..=9) {
-            0 => written.text += random.one_of(&["\n", "# speed 10 km/h\n", " \t#\n", "\r\n"]),
+            0 => written.text += random.one_of(&["\n", "# speed 10 km/h\n", " \t# version 2\n", "\r\n"]),
             1..=5 => {
                 let Some((place, item)) = head.next() else { continue };
                 written.head[place] = line;
@@ -84,7 +87,7 @@ fn spaced(random: &mut Random, item: &str) -> String {
 #[test]
 fn texts_beside_the_road_files() {
     let folder = Path::new(env!("CARGO_MANIFEST_DIR")).join("../../roads");
-    for name in ["example", "level", "three-crests"] {
+    for name in ["example", "level", "three-crests", "valley"] {
         let text = fs::read_to_string(folder.join(name).with_extension("txt")).expect("a text");
         let file = fs::read(folder.join(name).with_extension("vcp")).expect("a road file stands beside its text");
         assert_eq!(road_file(&text).as_ref(), Ok(&file), "{name}");
@@ -100,9 +103,10 @@ fn texts_beside_the_road_files() {
 #[test]
 fn random_roads_there_and_back() {
     let mut random = Random::new(51);
-    let (mut curves, mut negative, mut fractions) = (0, 0, 0);
-    for _ in 0..5_000 {
-        let road = roads::any_road(&mut random);
+    let (mut curves, mut negative, mut fractions, mut versions) = (0, 0, 0, [0; 3]);
+    for round in 0..6_000 {
+        let any = if round % 6 == 0 { roads::any_long_road } else { roads::any_road };
+        let road = any(&mut random);
         let file = bytes(&road);
         let text = road_text(&file).expect("the road is accepted");
         assert_eq!(road_file(&text), Ok(file.clone()), "{text}");
@@ -111,8 +115,10 @@ fn random_roads_there_and_back() {
         curves += road.curves.len();
         negative += usize::from(road.start_height < 0);
         fractions += usize::from(road.start_height % 10_000 != 0);
+        versions[usize::from(road.version)] += 1;
     }
     assert!(curves > 40_000 && negative > 1_000 && fractions > 2_000, "{curves}, {negative}, {fractions}");
+    assert!(versions[1] > 2_000 && versions[2] > 2_000, "{versions:?}");
 }
 
 /// Every grade, and every small height, where the sign and the zeros matter.
@@ -120,6 +126,7 @@ fn random_roads_there_and_back() {
 fn every_grade_and_small_heights() {
     let mut random = Random::new(52);
     let mut road = Road {
+        version: 1,
         speed: 80,
         purpose: 1,
         length: 2,
@@ -128,6 +135,7 @@ fn every_grade_and_small_heights() {
         curves: vec![Curve { pvi: 1, length: 2, grade_out: 0 }],
     };
     for number in -1_500..=1_500 {
+        road.version = random.one_of(&[1, 2]);
         road.first_grade = number;
         road.curves[0].grade_out = -number;
         road.start_height = i32::from(number) * random.one_of(&[1, 10, 100, 1_000, 6_666]);
@@ -148,6 +156,7 @@ fn example_of_the_format() {
     let example = comment.skip_while(|line| *line != " ```text").skip(1).take_while(|line| *line != " ```");
     let text = example.collect::<Vec<_>>().join("\n");
     let road = Road {
+        version: 1,
         speed: 90,
         purpose: 1,
         length: 1_500,
@@ -162,6 +171,7 @@ fn example_of_the_format() {
 #[test]
 fn text_of_a_road() {
     let road = Road {
+        version: 1,
         speed: 130,
         purpose: 5,
         length: 8_000,
@@ -185,6 +195,12 @@ curve 2000 m, 0 m, 14.50 %
 curve 2002 m, 4 m, -10.10 %
 ";
     assert_eq!(road_text(&bytes(&road)).as_deref(), Ok(text));
+    let in_version_2 = format!("version 2\n{text}");
+    assert_eq!(road_text(&bytes(&roads::in_version(2, &road))), Ok(in_version_2.clone()));
+    let farther = in_version_2.replace("8000", "100000").replace("2002 m", "99998 m");
+    let mut long = Road { version: 2, length: 100_000, ..road.clone() };
+    long.curves[2].pvi = 99_998;
+    assert_eq!(road_text(&bytes(&long)), Ok(farther));
     for (start_height, height) in [(0, "0.00"), (1, "0.0001"), (-10_000_000, "-1000.00"), (89_999_990, "8999.999")] {
         let text = road_text(&bytes(&Road { start_height, ..road.clone() })).expect("the road is accepted");
         assert!(text.contains(&format!("\nstart height {height} m\n")), "{text}");
@@ -216,8 +232,10 @@ fn expect(line: usize, text: &str, reason: &str) {
 
 #[test]
 fn unknown_words() {
-    let known = "a line begins with speed, purpose, length, start height, first grade or curve";
-    for text in ["kurve 1 m, 0 m, 0 %", "curves 1 m, 0 m, 0 %", "Curve 1 m, 0 m, 0 %", "start 1 m", "90", "+"] {
+    let known = "a line begins with version, speed, purpose, length, start height, first grade or curve";
+    for text in
+        ["kurve 1 m, 0 m, 0 %", "version2", "curves 1 m, 0 m, 0 %", "Curve 1 m, 0 m, 0 %", "start 1 m", "90", "+"]
+    {
         expect(6, text, &format!("unknown words in \"{text}\": {known}"));
     }
     expect(6, "  start\theight:\u{7}1 m # x", &format!("unknown words in \"start height:\\u{{7}}1 m\": {known}"));
@@ -240,6 +258,11 @@ fn repeated_lines() {
     for (first, (text, name)) in (1..).zip(GOOD.into_iter().zip(NAMES)) {
         expect(7, text, &format!("{name} stands on line {first} already"));
     }
+    // The first of two versions is the text's, whatever the second says.
+    for (first, second) in [("version 2", "version 2"), ("version 1", "version 2"), ("version 2", "version 1")] {
+        let text = format!("{first}\n{}\n{second}", GOOD.join("\n"));
+        assert_eq!(road_file(&text), Err(vec![fault(9, "version stands on line 1 already")]));
+    }
 }
 
 #[test]
@@ -250,6 +273,7 @@ fn numbers_that_are_none() {
         expect(1, &format!("speed {number} km/h"), &format!("speed: {number:?} is no number"));
         expect(2, &format!("purpose {number}"), &format!("purpose: {number:?} is no number"));
         expect(4, &format!("start height {number} m"), &format!("start height: {number:?} is no number"));
+        expect(7, &format!("version {number}"), &format!("version: {number:?} is no number"));
     }
     expect(1, "speed", "speed: the number is missing");
     expect(1, "speed km/h", "speed: \"km/h\" is no number");
@@ -260,6 +284,7 @@ fn numbers_that_are_none() {
 #[test]
 fn too_many_decimals() {
     expect(1, "speed 80.0 km/h", "speed: \"80.0\" is not whole");
+    expect(7, "version 1.0", "version: \"1.0\" is not whole");
     expect(3, "length 1000.5 m", "length: \"1000.5\" is not whole");
     expect(4, "start height 0.00000 m", "start height: \"0.00000\" has more than 4 decimals");
     expect(5, "first grade -3.001 %", "first grade: \"-3.001\" has more than 2 decimals");
@@ -274,39 +299,82 @@ fn wrong_units() {
     expect(1, "speed 80 mph", "speed: the unit is km/h, not \"mph\"");
     expect(1, "speed 80 km/h 3", "speed: the unit is km/h, not \"km/h 3\"");
     expect(2, "purpose 1 m", "purpose: \"m\" follows a number that has no unit");
+    expect(7, "version 2 m", "version: \"m\" follows a number that has no unit");
     expect(3, "length 1 km", "length: the unit is m, not \"km\"");
     expect(5, "first grade 3", "first grade: the unit % is missing");
     expect(6, "curve 100 m, 20, -3 %", "curve length: the unit m is missing");
     expect(6, "curve 100 m, 20 m, -3 m", "grade out: the unit is %, not \"m\"");
 }
 
-/// A number that the file has no room for is refused by the room that it has.
+/// A number that the file has no room for is refused by the room that it has. A road's length and a PVI have more of it in version 2,
+/// and who has too little in version 1 is told so.
 #[test]
 fn numbers_that_do_not_fit() {
+    let any = "the road file";
+    let [first, second] = [1, 2].map(|version| format!("a road file of version {version}"));
     let byte = ["0", "255", "-1", "256"];
     let two_bytes = ["0", "65535", "-1", "65536"];
+    let four_bytes = ["0", "4294967295", "-1", "4294967296"];
     let height = ["-214748.3648", "214748.3647", "-214748.3649", "214748.3648"];
     let grade = ["-327.68", "327.67", "-327.69", "327.68"];
-    for (line, name, begin, end, [least, greatest, below, above]) in [
-        (1, "speed", "speed ", " km/h", byte),
-        (2, "purpose", "purpose ", "", byte),
-        (3, "length", "length ", " m", two_bytes),
-        (4, "start height", "start height ", " m", height),
-        (5, "first grade", "first grade ", " %", grade),
-        (6, "PVI", "curve ", " m, 20 m, -3 %", two_bytes),
-        (6, "curve length", "curve 100 m, ", " m, -3 %", two_bytes),
-        (6, "grade out", "curve 100 m, 20 m, ", " %", grade),
+    for (line, name, begin, end, [in_first, in_second], [first_room, second_room]) in [
+        (1, "speed", "speed ", " km/h", [any; 2], [byte; 2]),
+        (2, "purpose", "purpose ", "", [any; 2], [byte; 2]),
+        (3, "length", "length ", " m", [&first, &second], [two_bytes, four_bytes]),
+        (4, "start height", "start height ", " m", [any; 2], [height; 2]),
+        (5, "first grade", "first grade ", " %", [any; 2], [grade; 2]),
+        (6, "PVI", "curve ", " m, 20 m, -3 %", [&first, &second], [two_bytes, four_bytes]),
+        (6, "curve length", "curve 100 m, ", " m, -3 %", [any; 2], [two_bytes; 2]),
+        (6, "grade out", "curve 100 m, 20 m, ", " %", [any; 2], [grade; 2]),
     ] {
-        for number in [below, above, "-9223372036854775809", "99999999999999999999999999999999"] {
-            let reason = format!("does not fit the road file, which has room for {least} to {greatest}");
-            expect(line, &format!("{begin}{number}{end}"), &format!("{name}: {number:?} {reason}"));
+        for (version, file, [least, greatest, below, above]) in
+            [("", in_first, first_room), ("version 1", in_first, first_room), ("version 2", in_second, second_room)]
+        {
+            let with = |number: &str| {
+                let mut lines = GOOD.map(str::to_string);
+                lines[line - 1] = format!("{begin}{number}{end}");
+                format!("{}\n{version}", lines.join("\n"))
+            };
+            for number in [below, above, "-9223372036854775809", "99999999999999999999999999999999"] {
+                let fits = if file == first && number == above { "; with the line 'version 2' it fits" } else { "" };
+                let room = format!("which has room for {least} to {greatest}{fits}");
+                let reason = format!("{name}: {number:?} does not fit {file}, {room}");
+                assert_eq!(road_file(&with(number)), Err(vec![fault(line, &reason)]));
+            }
+            // What the file has room for is left to the proved reader.
+            for number in [least, greatest] {
+                let faults = road_file(&with(number)).err().unwrap_or_default();
+                assert!(faults.iter().all(|fault| fault.refused), "{faults:?}");
+            }
         }
-        // What the file has room for is left to the proved reader.
-        for number in [least, greatest] {
-            let mut lines = GOOD.map(str::to_string);
-            lines[line - 1] = format!("{begin}{number}{end}");
-            let faults = road_file(&lines.join("\n")).err().unwrap_or_default();
-            assert!(faults.iter().all(|fault| fault.refused), "{faults:?}");
+    }
+}
+
+/// The version stands anywhere, and where it cannot be read or is none no other line is blamed for it.
+#[test]
+fn versions() {
+    let good = road_file(&GOOD.join("\n")).expect("a good text");
+    let of = |version: &str, length: &str, place: usize| {
+        let mut lines = GOOD.map(|line| line.replace("1000", length)).to_vec();
+        lines.insert(place, version.to_string());
+        road_file(&lines.join("\n"))
+    };
+    for place in 0..=GOOD.len() {
+        assert_eq!(of("version 1", "1000", place), Ok(good.clone()));
+        let second = of("\tversion  2 # and no more", "1000", place).expect("a good text");
+        assert_eq!((second.len(), &second[3..5]), (good.len() + 2 + 2 * 2, &[2, 0][..]));
+        assert!(of("version 2", "100000", place).is_ok());
+        for (version, length, reason) in [
+            ("version 0", "70000", "refused 3: the version is neither 1 nor 2"),
+            ("version 3", "1000", "refused 3: the version is neither 1 nor 2"),
+            ("version 513", "0", "refused 3: the version is neither 1 nor 2"),
+            ("version 65535", "70000", "refused 3: the version is neither 1 nor 2"),
+            ("version 65536", "70000", "version: \"65536\" does not fit the road file, which has room for 0 to 65535"),
+            ("version -2", "70000", "version: \"-2\" does not fit the road file, which has room for 0 to 65535"),
+            ("version", "70000", "version: the number is missing"),
+            ("version two", "70000", "version: \"two\" is no number"),
+        ] {
+            assert_eq!(of(version, length, place), Err(vec![fault(place + 1, reason)]), "{version}");
         }
     }
 }
@@ -350,7 +418,11 @@ fn blamed(road: &Road, written: &Written) -> Option<(usize, u32)> {
     let refusal = verdict(road).err()?;
     let first = |curves: usize| Road { curves: road.curves[..curves].to_vec(), ..road.clone() };
     let curves = (0..=road.curves.len()).find(|&curves| verdict(&first(curves)) == Err(refusal))?;
-    let line = if curves == 0 { written.head[refusal as usize - 6] } else { written.curves[curves - 1] };
+    let line = match (curves, refusal) {
+        (0, 3) => written.head[0],
+        (0, _) => written.head[refusal as usize - 5],
+        _ => written.curves[curves - 1],
+    };
     Some((line, refusal))
 }
 
@@ -359,8 +431,9 @@ fn blamed(road: &Road, written: &Written) -> Option<(usize, u32)> {
 fn refused_roads() {
     let mut random = Random::new(53);
     let (mut tally, mut of_curves) = (Tally::default(), 0);
-    for _ in 0..5_000 {
-        let mut road = roads::any_road(&mut random);
+    for round in 0..6_000 {
+        let any = if round % 6 == 0 { roads::any_long_road } else { roads::any_road };
+        let mut road = any(&mut random);
         let mut refusals: Vec<u32> = (0..random.within(1..=3)).map(|_| random.one_of(OF_ROAD)).collect();
         // The higher numbers first, so that a curve is spoilt on a road whose other numbers are still good.
         refusals.sort_unstable_by(|one, other| other.cmp(one));
@@ -369,6 +442,9 @@ fn refused_roads() {
         }
         if random.once_in(20) {
             road.curves.resize(random.within(33..=40) as usize, Curve { pvi: 1, length: 0, grade_out: 0 });
+        }
+        if random.once_in(20) {
+            road.version = random.one_of(&[0, 3, 255, 256, 513, 65_535]);
         }
         let written = write(&mut random, &road);
         let Some((line, refusal)) = blamed(&road, &written) else { continue };
@@ -379,7 +455,7 @@ fn refused_roads() {
         tally.count(Err(refusal));
         of_curves += usize::from(written.curves.contains(&line));
     }
-    for refusal in [&[4], OF_ROAD].concat() {
+    for refusal in [&[3, 4], OF_ROAD].concat() {
         assert!(tally.refused(refusal) > 100, "{} refused {refusal}", tally.refused(refusal));
     }
     assert!(of_curves > 500, "{of_curves} of curves");
@@ -387,9 +463,10 @@ fn refused_roads() {
 
 #[test]
 fn one_curve_too_many() {
-    for curves in [32, 33, 34, 255, 256, 257, 300, 1_000] {
-        let mut lines = GOOD[..5].to_vec();
-        lines.extend(vec!["curve 500 m, 0 m, 3 %"; curves]);
+    for (curves, version) in [32, 33, 34, 255, 256, 257, 300, 1_000].iter().flat_map(|&many| [(many, 1), (many, 2)]) {
+        let version = format!("version {version}");
+        let mut lines = [&GOOD[..5], &vec!["curve 500 m, 0 m, 3 %"; curves]].concat();
+        lines.push(&version);
         let answer = road_file(&lines.join("\n"));
         if curves == 32 {
             assert!(answer.is_ok());
@@ -399,7 +476,7 @@ fn one_curve_too_many() {
     }
 }
 
-/// The 33rd curve is refused before any other fault.
+/// The 33rd curve is refused before any other fault, but for a version that is none.
 #[test]
 fn one_curve_too_many_and_another_fault() {
     for (line, text) in [(1, "speed 131 km/h"), (5 + 5, "curve 500 m, 1 m, 0 %")] {
@@ -408,6 +485,8 @@ fn one_curve_too_many_and_another_fault() {
         lines[line - 1] = text;
         let too_many = fault(5 + 33, "refused 4: there are more than 32 curves");
         assert_eq!(road_file(&lines.join("\n")), Err(vec![too_many]), "{text}");
+        let no_version = fault(5 + 34, "refused 3: the version is neither 1 nor 2");
+        assert_eq!(road_file(&format!("{}\nversion 3", lines.join("\n"))), Err(vec![no_version]), "{text}");
         lines.pop();
         let faults = road_file(&lines.join("\n")).expect_err("the other fault is there still");
         assert_eq!(faults.iter().map(|fault| fault.line).collect::<Vec<_>>(), [line], "{text}");
