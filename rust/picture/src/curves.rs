@@ -3,7 +3,8 @@
 use std::fmt::{self, Formatter};
 
 use crate::sheet::SHAPES;
-use crate::{Curve, Picture};
+use crate::stretch::Stretch;
+use crate::Curve;
 
 /// What the shapes stand for.
 const KEY: &str = r#"<path class="crest" d="M1500 11700Q2500 9700 3500 11700Z"/><text x="4000" y="11650">crest</text>
@@ -11,17 +12,17 @@ const KEY: &str = r#"<path class="crest" d="M1500 11700Q2500 9700 3500 11700Z"/>
 <path class="crest" d="M14100 11700L14650 10700L15200 11700Z"/><text x="15700" y="11650">break</text>
 "#;
 
-/// The numbers of curves are a sixty-fourth of the road apart.
+/// The numbers of curves are a sixty-fourth of the plot apart.
 const NUMBERS: i64 = 64;
 
-impl Picture<'_> {
-    /// The curves behind a key of their shapes, each a crest or a sag by the grades before and behind it. One that changes no
-    /// grade is not drawn. Over the changed curve of a preview lies its shape as it is.
+impl Stretch<'_> {
+    /// The curves of the stretch behind a key of their shapes, each a crest or a sag by the grades before and behind it. One that
+    /// changes no grade is not drawn. Over the changed curve of a preview lies its shape as it is.
     pub fn curves(&self, out: &mut Formatter) -> fmt::Result {
         out.write_str(KEY)?;
         let mut grade_in = self.profile.first_grade;
         for (place, curve) in self.profile.curves.iter().enumerate() {
-            if curve.grade_out != grade_in {
+            if curve.grade_out != grade_in && self.reaches_in(curve) {
                 let crest = curve.grade_out < grade_in;
                 let class = if crest { "crest" } else { "sag" };
                 self.pvi(out, curve)?;
@@ -38,9 +39,17 @@ impl Picture<'_> {
         Ok(())
     }
 
-    /// A dotted line from a curve's shape down to the road at its PVI.
+    /// Whether a curve is in the stretch by its PVI, or by a part of its length.
+    fn reaches_in(&self, curve: &Curve) -> bool {
+        let (pvi, half) = (i64::from(curve.pvi), i64::from(curve.length / 2));
+        self.sheet.own().contains(&pvi) || (self.sheet.first < pvi + half && pvi - half < self.sheet.last)
+    }
+
+    /// A dotted line from a curve's shape down to the road at its PVI, where that is in the stretch.
     fn pvi(&self, out: &mut Formatter, curve: &Curve) -> fmt::Result {
-        let Some(&height) = self.profile.heights.get(curve.pvi as usize) else { return Ok(()) };
+        let is_own = self.sheet.own().contains(&curve.pvi.into());
+        let height = self.profile.heights.get(curve.pvi as usize).filter(|_| is_own);
+        let Some(&height) = height else { return Ok(()) };
         writeln!(out, r#"<path class="pvi" d="M{} 13200V{}"/>"#, self.sheet.x(curve.pvi), self.sheet.y(height))
     }
 
@@ -67,8 +76,9 @@ impl Picture<'_> {
             Some((own, curve)) if own != place => (pvi - station(curve)).abs() >= self.sheet.room(NUMBERS),
             _ => true,
         };
-        let numbers = self.profile.curves.iter().map(station).zip(0..).filter(has_room);
-        for (pvi, number) in self.sheet.apart(numbers, NUMBERS) {
+        let numbers = self.profile.curves.iter().map(station).zip(0..);
+        let numbers = numbers.filter(|(pvi, _)| self.sheet.own().contains(pvi)).filter(has_room);
+        for (pvi, number) in self.sheet.apart(numbers, self.sheet.room(NUMBERS)) {
             writeln!(out, r#"<text class="middle" x="{}" y="11500">{number}</text>"#, self.sheet.x(pvi))?;
         }
         Ok(())

@@ -1,5 +1,5 @@
-//! A road's picture, in SVG: its profile, the zones along it, and its curves; the same of a road before and after a change of
-//! one curve; and a page of the distances on a level road.
+//! A road's picture, in SVG: its profile, the zones along it, and its curves, a long road in stretches one below the other; the
+//! same of a road before and after a change of one curve; and a page of the distances on a level road.
 //!
 //! This only draws. Heights, distances and zones are handed over as the proved functions give them, and where they lie on
 //! the sheet is worked out in whole numbers. Any profile is drawn: what would lie outside the plot lies at its edge, and only
@@ -12,13 +12,15 @@ use std::fmt::{self, Formatter};
 
 pub use crate::page::{level_page, LevelPage, LevelRow};
 pub use crate::preview::{differing, preview, Preview};
-use crate::sheet::{Sheet, BOTTOM, LEFT, RIGHT, SHEET_WIDTH, STRIP_STEP};
+use crate::sheet::{Sheet, SHEET_WIDTH, STRIP_STEP};
+use crate::stretch::Stretch;
 
 mod axes;
 mod curves;
 mod page;
 mod preview;
 mod sheet;
+mod stretch;
 mod zones;
 
 /// A vertical curve, or a break in grade.
@@ -52,7 +54,7 @@ pub struct Profile<'a> {
     /// A height for each station, in h-units, which are tenths of a millimetre. The last station is the road's length.
     pub heights: &'a [i32],
     /// The zones of the letters S, D, R, s and d, ascending, each by its first and last station.
-    pub zones: &'a [Vec<[u16; 2]>; 5],
+    pub zones: &'a [Vec<[u32; 2]>; 5],
     /// What is to be said of passing, where a distance for it is given.
     pub passing: Option<Passing<'a>>,
 }
@@ -64,12 +66,12 @@ pub struct Passing<'a> {
     pub distance: u32,
     /// The zones where passing sight is lacking and those where passing is not judged, ascending, each by its first and
     /// last station.
-    pub zones: &'a [Vec<[u16; 2]>; 2],
+    pub zones: &'a [Vec<[u32; 2]>; 2],
 }
 
 impl Profile<'_> {
     /// The zones of each row below the plot, those of passing last.
-    fn rows(&self) -> impl Iterator<Item = &Vec<[u16; 2]>> {
+    fn rows(&self) -> impl Iterator<Item = &Vec<[u32; 2]>> {
         self.zones.iter().chain(self.passing.iter().flat_map(|passing| passing.zones))
     }
 }
@@ -98,15 +100,15 @@ impl Profile<'_> {
 /// assert!(picture.contains("20 km/h, marked with grade &#8722;15.00 %: stopping sight 25 m, decision sight 25 m (purpose 1)"));
 /// ```
 pub fn svg(profile: &Profile) -> String {
-    let sheet = Sheet::of(&[profile.heights], profile.rows().count(), STRIP_STEP);
-    Picture { profile, preview: None, sheet }.to_string()
+    let sheets = Sheet::stretches(&[profile.heights], profile.rows().count(), STRIP_STEP);
+    Picture { profile, preview: None, sheets }.to_string()
 }
 
-/// A profile on its sheet. Of a preview it is that of the changed road.
+/// A profile on its sheet, in one stretch or in several. Of a preview it is that of the changed road.
 struct Picture<'a> {
     profile: &'a Profile<'a>,
     preview: Option<&'a Preview<'a>>,
-    sheet: Sheet,
+    sheets: Vec<Sheet>,
 }
 
 /// What the zones of the letters S, D, R, s and d are.
@@ -122,20 +124,18 @@ pub const MEANINGS: [&str; 5] = [
 pub const PASSING_MEANINGS: [&str; 2] = ["passing sight lacking", "passing not judged"];
 
 impl fmt::Display for Picture<'_> {
-    /// What is drawn later lies above what was drawn before.
+    /// The headings, and below them the stretches. Those behind the first are moved down.
     fn fmt(&self, out: &mut Formatter) -> fmt::Result {
         self.opening(out)?;
         self.headings(out)?;
         self.differing(out)?;
-        self.earth(out)?;
-        self.tint(out)?;
-        self.station_axis(out)?;
-        self.height_axis(out)?;
-        self.strips(out)?;
-        self.curves(out)?;
-        self.curve_numbers(out)?;
-        self.road(out)?;
-        self.old_road(out)?;
+        for sheet in &self.sheets {
+            let stretch = Stretch { profile: self.profile, preview: self.preview, sheet };
+            match sheet.down() {
+                0 => write!(out, "{stretch}")?,
+                down => write!(out, "<g class=\"stretch\" transform=\"translate(0 {down})\">\n{stretch}</g>\n")?,
+            }
+        }
         out.write_str("</svg>\n")
     }
 }
@@ -143,7 +143,7 @@ impl fmt::Display for Picture<'_> {
 impl Picture<'_> {
     /// The sheet's size, its styles and its ground.
     fn opening(&self, out: &mut Formatter) -> fmt::Result {
-        let height = self.sheet.height();
+        let height = self.sheets.iter().map(|sheet| sheet.down() + sheet.stretch_foot()).max().unwrap_or(0);
         let passing = if self.profile.passing.is_some() { include_str!("passing.css") } else { "" };
         let preview = if self.preview.is_some() { include_str!("preview.css") } else { "" };
         write!(out, r#"<svg xmlns="http://www.w3.org/2000/svg" viewBox="0 0 {SHEET_WIDTH} {height}" "#)?;
@@ -157,7 +157,7 @@ impl Picture<'_> {
     fn headings(&self, out: &mut Formatter) -> fmt::Result {
         let Profile { speed, purpose, grade, stopping, decision, passing, .. } = *self.profile;
         let grade = decimal(grade.into(), 2, 2);
-        let Sheet { length, exaggeration, .. } = self.sheet;
+        let Sheet { length, exaggeration, .. } = self.sheets[0];
         let change = self.preview.map(Preview::change).unwrap_or_default();
         writeln!(out, "<title>Sight along the road, {length} m{change}</title>")?;
         writeln!(out, r#"<text class="title" x="1500" y="4200">Sight along the road, {length} m{change}</text>"#)?;
@@ -168,19 +168,6 @@ impl Picture<'_> {
         }
         write!(out, "; sight in the direction of rising stations &#8594;; ")?;
         writeln!(out, r#"vertical exaggeration <tspan class="letter">{exaggeration} : 1</tspan></text>"#)
-    }
-
-    /// The points of a line through these heights, from the station of the first on.
-    fn points(&self, first: i64, heights: &[i32]) -> String {
-        let point = |(station, &height): (i64, &i32)| format!(" {},{}", self.sheet.x(station), self.sheet.y(height));
-        (first..).zip(heights).map(point).collect()
-    }
-
-    /// The profile as a line that is used by its name, and the earth below it.
-    fn earth(&self, out: &mut Formatter) -> fmt::Result {
-        let points = self.points(0, self.profile.heights);
-        writeln!(out, r#"<defs><polyline id="profile" points="{points}"/></defs>"#)?;
-        writeln!(out, r#"<polygon class="earth" points="{LEFT},{BOTTOM}{points} {RIGHT},{BOTTOM}"/>"#)
     }
 }
 

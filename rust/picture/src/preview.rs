@@ -3,6 +3,7 @@
 use std::fmt::{self, Formatter};
 
 use crate::sheet::{Sheet, PAIR_STEP};
+use crate::stretch::Stretch;
 use crate::{Curve, Picture, Profile};
 
 /// A road as it is, and the same road with another length of one curve.
@@ -29,8 +30,8 @@ const KEY: &str = r#"<path class="old line" d="M28000 9000H32000"/><text x="3260
 /// road as it is where that differs, the shape of the curve as it is, and a pair of rows, before and after, for each letter.
 pub fn preview(preview: &Preview) -> String {
     let Preview { before, after, .. } = preview;
-    let sheet = Sheet::of(&[before.heights, after.heights], after.rows().count(), PAIR_STEP);
-    Picture { profile: after, preview: Some(preview), sheet }.to_string()
+    let sheets = Sheet::stretches(&[before.heights, after.heights], after.rows().count(), PAIR_STEP);
+    Picture { profile: after, preview: Some(preview), sheets }.to_string()
 }
 
 /// At how many of so many stations the marks differ, in words.
@@ -64,18 +65,22 @@ impl Picture<'_> {
         writeln!(out, r#"<text class="sub letter" x="1500" y="9500">{words}</text>"#)?;
         out.write_str(KEY)
     }
+}
 
+impl Stretch<'_> {
     /// Of a preview: the profile of the road as it is, from where the two profiles part to where they meet again. It lies on a
     /// pale band, so that it is seen where zones are coloured.
     pub fn old_road(&self, out: &mut Formatter) -> fmt::Result {
         let Some(Preview { before, after, .. }) = self.preview else { return Ok(()) };
-        let pairs = before.heights.iter().zip(after.heights).enumerate();
+        let [old, new] = [before, after].map(|profile| self.sheet.heights(profile.heights));
+        let pairs = old.iter().zip(new).enumerate();
         let mut stations = pairs.filter(|(_, (old, new))| old != new).map(|(station, _)| station);
         let Some(first) = stations.next() else { return Ok(()) };
         let last = stations.next_back().unwrap_or(first);
-        let seen = first.saturating_sub(1)..(last + 2).min(before.heights.len());
-        let points = self.points(seen.start as i64, &before.heights[seen]);
-        writeln!(out, r#"<defs><polyline id="old" points="{points}"/></defs>"#)?;
-        writeln!(out, r##"<use href="#old" class="old halo"/><use href="#old" class="old line"/>"##)
+        let seen = first.saturating_sub(1)..(last + 2).min(old.len());
+        let points = self.points(self.sheet.first + seen.start as i64, &old[seen]);
+        let name = self.name("old");
+        writeln!(out, r#"<defs><polyline id="{name}" points="{points}"/></defs>"#)?;
+        writeln!(out, r##"<use href="#{name}" class="old halo"/><use href="#{name}" class="old line"/>"##)
     }
 }

@@ -2,8 +2,9 @@
 
 use std::fmt::{self, Formatter};
 
-use crate::sheet::{BARS, BAR_HEIGHT, HEIGHT, LEFT, RIGHT, TOP};
-use crate::{Picture, MEANINGS, PASSING_MEANINGS};
+use crate::sheet::{BARS, BAR_HEIGHT, HEIGHT, LEFT, TOP};
+use crate::stretch::Stretch;
+use crate::{MEANINGS, PASSING_MEANINGS};
 
 /// The classes and letters of the strips, in the order of a profile's zones, and behind them those of passing.
 const LETTERS: [[&str; 2]; 7] = [["S", "S"], ["D", "D"], ["R", "R"], ["ns", "s"], ["nd", "d"], ["P", "P"], ["np", "p"]];
@@ -19,26 +20,22 @@ struct Lane {
 const LANE: Lane = Lane { bars: BARS, labels: BARS - 300 };
 const LOWER_LANE: Lane = Lane { bars: BARS + BAR_HEIGHT + 200, labels: BARS + 2 * BAR_HEIGHT + 1_350 };
 
-/// The labels of zones are a twentieth of the road apart.
+/// The labels of zones are a twentieth of the plot apart, or as much more as longer numbers need.
 const LABELS: i64 = 20;
 
 /// A zone that has a label, behind the station in its middle.
-type Labelled<'a> = (i64, &'a [u16; 2]);
+type Labelled<'a> = (i64, &'a [u32; 2]);
 
-/// The profile's line in the parts that are cut out of it.
-const ROAD: &str = r##"<use href="#profile" class="road ns" clip-path="url(#ns)"/>
-<use href="#profile" class="road" clip-path="url(#judged)"/>
-<use href="#profile" class="road D" clip-path="url(#D)"/>
-<use href="#profile" class="road R" clip-path="url(#R)"/>
-<use href="#profile" class="road S" clip-path="url(#S)"/>
-"##;
+/// The parts that are cut out of the profile's line, each by its name and its classes, the lowest first.
+const PARTS: [[&str; 2]; 5] =
+    [["ns", "road ns"], ["judged", "road"], ["D", "road D"], ["R", "road R"], ["S", "road S"]];
 
-impl Picture<'_> {
+impl Stretch<'_> {
     /// A tint over the plot where stopping sight is lacking.
     pub fn tint(&self, out: &mut Formatter) -> fmt::Result {
         let [lacking, ..] = self.profile.zones;
         writeln!(out, r#"<g class="tint">"#)?;
-        self.bars(out, lacking, TOP, HEIGHT)?;
+        self.bars(out, &self.seen(lacking), TOP, HEIGHT)?;
         writeln!(out, "</g>")
     }
 
@@ -46,19 +43,29 @@ impl Picture<'_> {
     /// lowest: it shows where the decision is judged and stopping is not.
     pub fn road(&self, out: &mut Formatter) -> fmt::Result {
         let [lacking, decision_lacking, reduced, not_judged, _] = self.profile.zones;
-        let right = not_judged.first().map_or(RIGHT, |&[first, _]| self.sheet.zone_left(first));
-        let height = self.sheet.height();
-        writeln!(out, r#"<clipPath id="judged"><path d="M0 0H{right}V{height}H0Z"/></clipPath>"#)?;
-        for (id, zones) in [("S", lacking), ("R", reduced), ("D", decision_lacking), ("ns", not_judged)] {
-            writeln!(out, r#"<clipPath id="{id}">"#)?;
-            self.bars(out, zones, TOP, HEIGHT)?;
+        let right = not_judged.first().map_or(self.sheet.right(), |&[first, _]| self.sheet.zone_left(first));
+        let (judged, foot) = (self.name("judged"), self.sheet.stretch_foot());
+        writeln!(out, r#"<clipPath id="{judged}"><path d="M0 0H{right}V{foot}H0Z"/></clipPath>"#)?;
+        for (part, zones) in [("S", lacking), ("R", reduced), ("D", decision_lacking), ("ns", not_judged)] {
+            writeln!(out, r#"<clipPath id="{}">"#, self.name(part))?;
+            self.bars(out, &self.seen(zones), TOP, HEIGHT)?;
             writeln!(out, "</clipPath>")?;
         }
-        out.write_str(ROAD)
+        let profile = self.name("profile");
+        for [part, class] in PARTS {
+            let part = self.name(part);
+            writeln!(out, r##"<use href="#{profile}" class="{class}" clip-path="url(#{part})"/>"##)?;
+        }
+        Ok(())
+    }
+
+    /// The zones that are to be seen in the stretch.
+    fn seen(&self, zones: &[[u32; 2]]) -> Vec<[u32; 2]> {
+        zones.iter().copied().filter(|zone| self.sheet.shows(zone)).collect()
     }
 
     /// A rectangle for each zone.
-    fn bars(&self, out: &mut Formatter, zones: &[[u16; 2]], top: i64, height: i64) -> fmt::Result {
+    fn bars(&self, out: &mut Formatter, zones: &[[u32; 2]], top: i64, height: i64) -> fmt::Result {
         for &zone in zones {
             let (left, width) = (self.sheet.zone_left(zone[0]), self.sheet.zone_width(zone));
             writeln!(out, r#"<rect x="{left}" y="{top}" width="{width}" height="{height}"/>"#)?;
@@ -74,9 +81,10 @@ impl Picture<'_> {
         for ((([class, letter], meaning), zones), top) in rows.zip(self.sheet.strip_tops()) {
             let name = format!(r#"<tspan class="letter">{letter}</tspan>&#160; {meaning}"#);
             writeln!(out, r#"<g class="{class}" transform="translate(0 {top})">"#)?;
+            let zones = &self.seen(zones);
             match before.next() {
                 None => self.strip(out, &name, zones, &self.labelled([zones; 2])[0], LANE)?,
-                Some(before) => self.pair(out, &name, [before, zones])?,
+                Some(before) => self.pair(out, &name, [&self.seen(before), zones])?,
             }
             writeln!(out, "</g>")?;
         }
@@ -84,7 +92,7 @@ impl Picture<'_> {
     }
 
     /// Two strips under one name: the zones of the road as it is, and below them those of the changed road.
-    fn pair(&self, out: &mut Formatter, name: &str, [before, after]: [&[[u16; 2]]; 2]) -> fmt::Result {
+    fn pair(&self, out: &mut Formatter, name: &str, [before, after]: [&[[u32; 2]]; 2]) -> fmt::Result {
         writeln!(out, r#"<text x="1500" y="{}">{name}</text>"#, LANE.labels)?;
         let [labelled_before, labelled_after] = self.labelled([before, after]);
         writeln!(out, r#"<g class="before">"#)?;
@@ -98,33 +106,35 @@ impl Picture<'_> {
         &self,
         out: &mut Formatter,
         name: &str,
-        zones: &[[u16; 2]],
+        zones: &[[u32; 2]],
         labelled: &[Labelled],
         lane: Lane,
     ) -> fmt::Result {
         let Lane { bars, labels } = lane;
-        let (foot, line) = (bars + BAR_HEIGHT, bars + 1_350);
-        writeln!(out, r#"<path class="lane" d="M{LEFT} {bars}H{RIGHT}V{foot}H{LEFT}Z"/>"#)?;
+        let (foot, line, right) = (bars + BAR_HEIGHT, bars + 1_350, self.sheet.right());
+        writeln!(out, r#"<path class="lane" d="M{LEFT} {bars}H{right}V{foot}H{LEFT}Z"/>"#)?;
         write!(out, r#"<path d="M1500 {bars}H3100V{foot}H1500Z"/>"#)?;
         writeln!(out, r#"<text x="3800" y="{line}">{name}</text>"#)?;
         self.bars(out, zones, bars, BAR_HEIGHT)?;
         self.zone_labels(out, labelled, labels)?;
         let plural = if zones.len() == 1 { "" } else { "s" };
-        writeln!(out, r#"<text x="151200" y="{line}">{} zone{plural}</text>"#, zones.len())
+        writeln!(out, r#"<text x="{}" y="{line}">{} zone{plural}</text>"#, right + 1_200, zones.len())
     }
 
     /// The zones of two strips whose labels have room: first such as one strip alone has, then those of both, in both or in
     /// neither.
-    fn labelled<'a>(&self, [before, after]: [&'a [[u16; 2]]; 2]) -> [Vec<Labelled<'a>>; 2] {
-        let in_the_middle = |zone: &'a [u16; 2]| ((i64::from(zone[0]) + i64::from(zone[1])) / 2, zone);
+    fn labelled<'a>(&self, [before, after]: [&'a [[u32; 2]]; 2]) -> [Vec<Labelled<'a>>; 2] {
+        let room = self.sheet.station_room(LABELS);
+        let in_the_middle = |zone: &'a [u32; 2]| (self.sheet.middle(zone), zone);
+        // Zones are ascending.
+        let has = |zones: &[[u32; 2]], zone: &[u32; 2]| zones.binary_search(zone).is_ok();
         let alone = [(before, after), (after, before)].map(|(own, other)| {
-            let zones = own.iter().filter(|zone| !other.contains(zone)).map(in_the_middle);
-            self.sheet.apart(zones, LABELS).collect::<Vec<_>>()
+            let zones = own.iter().filter(|zone| !has(other, zone)).map(in_the_middle);
+            self.sheet.apart(zones, room).collect::<Vec<_>>()
         });
-        let room = self.sheet.room(LABELS);
         let is_free = |&(middle, _): &Labelled| alone.iter().flatten().all(|(other, _)| (other - middle).abs() >= room);
-        let of_both = before.iter().filter(|zone| after.contains(zone)).map(in_the_middle).filter(is_free);
-        let of_both: Vec<_> = self.sheet.apart(of_both, LABELS).collect();
+        let of_both = before.iter().filter(|zone| has(after, zone)).map(in_the_middle).filter(is_free);
+        let of_both: Vec<_> = self.sheet.apart(of_both, room).collect();
         alone.clone().map(|mut labelled| {
             labelled.extend(&of_both);
             labelled.sort_unstable();

@@ -5,13 +5,13 @@ use std::array;
 use picture::{svg, Curve, Passing, Profile};
 use sight_tests::random::Random;
 
-use crate::elements::{Element, Elements, Outline};
+use crate::elements::{stretches, Element, Elements, Outline};
 use crate::rules::{HEIGHT, LEFT, TOP, WIDTH};
 
-pub static NO_ZONES: [Vec<[u16; 2]>; 5] = [const { Vec::new() }; 5];
+pub static NO_ZONES: [Vec<[u32; 2]>; 5] = [const { Vec::new() }; 5];
 
 /// A profile with these heights, curves and zones. If it has 1,281 heights, its stations are drawn a pixel apart.
-pub fn profile<'a>(heights: &'a [i32], curves: &'a [Curve], zones: &'a [Vec<[u16; 2]>; 5]) -> Profile<'a> {
+pub fn profile<'a>(heights: &'a [i32], curves: &'a [Curve], zones: &'a [Vec<[u32; 2]>; 5]) -> Profile<'a> {
     Profile {
         speed: 20,
         purpose: 1,
@@ -71,6 +71,94 @@ fn labels_give_way() {
     let stations: Vec<_> = all.with("class", "zone").map(Element::label).collect();
     let shown = [(22_000, "0"), (28_400, "64"), (37_000, "100&#8211;200")];
     assert_eq!(stations, shown.map(|(x, text)| (x, text.to_string())));
+}
+
+/// Two stretches of 8,000 m, in which a metre is 16 hundredths of a pixel: a zone with stations in both is in both, and what is seen
+/// of it in each has its label in the middle. Station 8,000 is the second stretch's.
+#[test]
+fn zones_over_the_end_of_a_stretch() {
+    let zones = [
+        vec![[7_900, 8_099]],
+        vec![[7_000, 7_999], [8_001, 8_100]],
+        vec![[7_000, 7_998], [8_000, 8_000], [15_999, 16_000]],
+        vec![[7_900, 8_000]],
+        vec![[8_000, 8_099]],
+    ];
+    let stretches = stretches(&svg(&profile(&[0; 16_001], &[], &zones)));
+    assert!(stretches.iter().map(|(down, _)| *down).eq([0, 83_000]));
+    for (class, before, behind) in [
+        ("S", &[[148_392, 1_608]][..], &[[22_000, 1_592]][..]),
+        ("D", &[[133_992, 16_000]], &[[22_008, 1_600]]),
+        ("R", &[[133_992, 15_984]], &[[22_000, 250], [149_976, 250]]),
+        ("ns", &[[148_392, 1_608]], &[[22_000, 250]]),
+        ("nd", &[], &[[22_000, 1_592]]),
+    ] {
+        for ((_, all), expected) in stretches.iter().zip([before, behind]) {
+            let bars = all.rectangles(all.only("class", class).0);
+            assert!(bars.iter().map(|&[left, _, width, _]| [left, width]).eq(expected.iter().copied()), "{class}");
+        }
+    }
+    let labels = stretches.iter().map(|(_, all)| all.with("class", "zone").next().map(Element::label));
+    assert!(labels.eq([149_200, 22_784].map(|x| Some((x, "7900&#8211;8099".to_string())))));
+}
+
+/// A curve that ends or begins where a stretch does is in that one alone, a break there in the second. One across the end has its
+/// shape in both, and its line and its number by its PVI.
+#[test]
+fn curves_over_the_end_of_a_stretch() {
+    let drawn = |curves: &[(u32, u32, i32)]| {
+        let curve = |&(pvi, length, grade_out): &(u32, u32, i32)| Curve { pvi, length, grade_out };
+        let curves: Vec<Curve> = curves.iter().map(curve).collect();
+        let stretches = stretches(&svg(&profile(&[0; 16_001], &curves, &NO_ZONES)));
+        let of = |(_, all): (i64, Elements)| {
+            let numbers: Vec<_> = all.with("y", "11500").map(Element::label).collect();
+            (all.outlines().split_off(3), numbers)
+        };
+        stretches.into_iter().map(of).collect::<Vec<_>>()
+    };
+    let number = |x: i64, text: &str| (x, text.to_string());
+    let [before, behind] = &drawn(&[(7_900, 200, -100), (8_000, 0, -50), (8_100, 200, -100)])[..] else {
+        panic!("two stretches")
+    };
+    let classes = |outlines: &[Outline]| outlines.iter().map(|outline| outline.class.clone()).collect::<Vec<_>>();
+    assert_eq!((classes(&before.0), &before.1), (words("pvi crest"), &vec![number(148_400, "0")]));
+    assert_eq!((classes(&behind.0), &behind.1), (words("pvi sag pvi crest"), &vec![number(22_000, "1")]));
+
+    let [before, behind] = &drawn(&[(8_010, 40, -100)])[..] else { panic!("two stretches") };
+    let shape = |points: [(i64, i64); 3]| Outline::new("crest", "MQZ", &points);
+    assert_eq!(*before, (vec![shape([(149_840, 13_000), (150_000, 11_000), (150_000, 13_000)])], vec![]));
+    let line = Outline::new("pvi", "MV", &[(22_160, 13_200), (22_160, 38_000)]);
+    let crest = shape([(22_000, 13_000), (22_160, 11_000), (22_480, 13_000)]);
+    assert_eq!(*behind, (vec![line, crest], vec![number(22_160, "0")]));
+}
+
+fn words(text: &str) -> Vec<String> {
+    text.split(' ').map(str::to_string).collect()
+}
+
+/// In a wide font, whose digits are 0.64 of its size wide, the numbers of a long road do not touch: not those of its zones, of which
+/// there is one every ten metres, and not those below the plot.
+#[test]
+fn numbers_of_a_long_road() {
+    for length in [8_001, 8_300, 15_000, 15_251, 99_900, 100_000] {
+        let every_ten: Vec<[u32; 2]> = (0..=length - 4).step_by(10).map(|station| [station, station + 4]).collect();
+        let zones = [every_ten, vec![], vec![], vec![], vec![]];
+        let mut labels = 0;
+        for (_, all) in stretches(&svg(&profile(&vec![0; length as usize + 1], &[], &zones))) {
+            let of_zones: Vec<&Element> = all.with("class", "zone").collect();
+            let below: Vec<&Element> = all.with("y", "64000").filter(|text| text.get("class") == "middle").collect();
+            for (size, numbers) in [(1_150, of_zones), (1_300, below)] {
+                let width = |text: &str| text.replace("&#8211;", "-").len() as i64 * size * 64 / 100;
+                let numbers: Vec<(i64, String)> = numbers.into_iter().map(Element::label).collect();
+                for pair in numbers.windows(2) {
+                    let [(x, one), (next, other)] = pair else { panic!("two numbers") };
+                    assert!(next - x >= (width(one) + width(other)) / 2, "{one} and {other}");
+                }
+                labels += numbers.len();
+            }
+        }
+        assert!(labels > 40, "{labels} labels");
+    }
 }
 
 /// Level roads: so many metres, at a height in h-units.
@@ -165,6 +253,7 @@ fn absurd_numbers() {
     let mut random = Random::new(76);
     let mut lists = vec![vec![], vec![0], vec![i32::MIN], vec![i32::MAX; 2], vec![i32::MIN, i32::MAX]];
     lists.extend((0..300).map(|places| random.list(places, |bits| bits as i32)));
+    lists.extend([8_001, 8_002, 20_000, 100_001, 120_000].map(|places| random.list(places, |bits| bits as i32)));
     for heights in lists {
         let number = |random: &mut Random| random.one_of(&[0, 1, 2, 100, u32::MAX - 1, u32::MAX]);
         let curves: Vec<Curve> = (0..random.within(0..=40))
@@ -176,7 +265,7 @@ fn absurd_numbers() {
             .collect();
         let mut any_zones = |_| {
             let places = random.within(0..=5) as usize;
-            random.list(places, |bits| [bits as u16, (bits >> 16) as u16 >> (bits >> 60)])
+            random.list(places, |bits| [bits as u32, (bits >> 32) as u32 >> (bits >> 59)])
         };
         let (zones, passing_zones) = (array::from_fn(&mut any_zones), array::from_fn(&mut any_zones));
         let text = svg(&Profile {
@@ -189,7 +278,7 @@ fn absurd_numbers() {
             passing: random.once_in(2).then_some(Passing { distance: u32::MAX, zones: &passing_zones }),
             ..profile(&heights, &curves, &zones)
         });
-        on_the_sheet(&Elements::of(&text));
+        stretches(&text).iter().for_each(|(_, all)| on_the_sheet(all));
     }
 }
 

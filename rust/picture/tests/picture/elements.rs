@@ -13,7 +13,7 @@ pub struct Element {
 /// A path's class, its commands and its points on the sheet.
 #[derive(Debug, PartialEq)]
 pub struct Outline {
-    class: String,
+    pub class: String,
     commands: String,
     pub points: Vec<(i64, i64)>,
 }
@@ -78,8 +78,23 @@ fn number(text: &str) -> i64 {
     text.parse().unwrap_or_else(|_| panic!("{text:?} is a number"))
 }
 
-/// The elements of a picture.
+/// The elements of a picture, or of one of its stretches.
 pub struct Elements(pub Vec<Element>);
+
+/// The stretches of a picture, each with the sheet's own element around it, and how far each is moved down. The first one has all
+/// that belongs to no stretch too.
+pub fn stretches(text: &str) -> Vec<(i64, Elements)> {
+    let (sheet, _) = text.split_once("<style>").expect("the styles follow the sheet's size");
+    let body = text.strip_suffix("</svg>\n").expect("the sheet is closed");
+    let mut parts = body.split("<g class=\"stretch\" transform=\"translate(0 ");
+    let first = parts.next().map(|part| (0, Elements::of(&format!("{part}</svg>"))));
+    let others = parts.map(|part| {
+        let (down, rest) = part.split_once(")\">").expect("a group says how far it is moved");
+        let rest = rest.strip_suffix("</g>\n").expect("a stretch is closed before the next");
+        (number(down), Elements::of(&format!("{sheet}{rest}</svg>")))
+    });
+    first.into_iter().chain(others).collect()
+}
 
 impl Elements {
     /// The elements of a text in XML, which are closed in the reverse of the order in which they are opened.

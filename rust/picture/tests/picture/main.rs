@@ -10,8 +10,8 @@ use sight_tests::reference::file::read;
 use sight_tests::reference::road::Road;
 use sight_tests::roads::{self, EXAMPLE};
 
-use crate::elements::{Element, Elements};
-use crate::rules::{Plot, HEIGHT, LEFT, TOP, WIDTH};
+use crate::elements::{stretches, Element, Elements};
+use crate::rules::{Plot, HEIGHT, LEFT, TOP};
 
 mod by_hand;
 mod elements;
@@ -35,19 +35,38 @@ const STRIPS: [[&str; 3]; 7] = [
 /// Compares a road's picture with the second calculation, and answers how many zones it has.
 fn compare(road: &Road) -> usize {
     let drawn = Drawn::of(road);
-    let plot = Plot::of(&drawn.heights);
+    let plots = Plot::all(&[&drawn.heights]);
     let text = drawn.picture(road);
-    let all = Elements::of(&text);
-    assert_eq!(all.0[0].name, "svg");
-    assert_eq!(all.height(), 90_000);
-    compare_headings(road, &drawn, &plot, &text, "");
-    compare_profile(&drawn, &plot, &all);
-    compare_zones(&drawn, &plot, &all);
-    compare_strips(&drawn.zones, &plot, &all);
-    compare_axes(&plot, &all);
-    assert_eq!(all.outlines()[3..], plot.curves(road, &drawn.heights, None), "{road:?}");
-    compare_curve_numbers(road, None, &plot, &all);
+    compare_headings(road, &drawn, &plots[0], &text, "");
+    for (plot, all) in plots.iter().zip(compare_stretches(&text, plots.len(), 90_000)) {
+        compare_profile(&drawn, plot, &all);
+        compare_zones(&drawn, plot, 90_000, &all);
+        compare_strips(&drawn.zones, plot, &all);
+        compare_axes(plot, 90_000, &all);
+        assert_eq!(all.outlines()[3..], plot.curves(road, &drawn.heights, None), "{road:?}");
+        compare_curve_numbers(road, None, plot, &all);
+    }
     drawn.zones.iter().map(Vec::len).sum()
+}
+
+/// There are so many stretches, each so high with the headings, and so much lower than the one before; no two elements have the same
+/// name, and none uses one that is not there. Answers the stretches.
+fn compare_stretches(text: &str, many: usize, height: i64) -> Vec<Elements> {
+    let all = Elements::of(text);
+    assert_eq!(all.0[0].name, "svg");
+    let step = height - 7_000;
+    assert_eq!(all.height(), height + (many as i64 - 1) * step);
+    let mut names: Vec<&str> = all.0.iter().map(|element| element.get("id")).filter(|id| !id.is_empty()).collect();
+    names.sort_unstable();
+    assert!(names.windows(2).all(|pair| pair[0] < pair[1]), "{names:?}");
+    for element in &all.0 {
+        let clip = element.get("clip-path").trim_start_matches("url(").trim_end_matches(')');
+        let used = [element.get("href"), clip].map(|name| name.trim_start_matches('#'));
+        assert!(used.iter().all(|name| name.is_empty() || names.binary_search(name).is_ok()), "{used:?}");
+    }
+    let (down, stretches): (Vec<i64>, Vec<Elements>) = stretches(text).into_iter().unzip();
+    assert_eq!(down, (0..many).map(|place| place as i64 * step).collect::<Vec<_>>());
+    stretches
 }
 
 /// The title, which a change stands behind, and the line below it.
@@ -68,43 +87,39 @@ fn compare_headings(road: &Road, drawn: &Drawn, plot: &Plot, text: &str, change:
 }
 
 fn compare_profile(drawn: &Drawn, plot: &Plot, all: &Elements) {
-    let profile = plot.profile(&drawn.heights);
+    let profile = plot.profile(&drawn.heights, plot.stations());
     assert!(profile.iter().all(|&(_, y)| (TOP..=TOP + HEIGHT).contains(&y)), "the profile is in the plot");
-    assert_eq!(all.only("id", "profile").1.points(), profile);
-    let earth = [&[(LEFT, TOP + HEIGHT)], &profile[..], &[(LEFT + WIDTH, TOP + HEIGHT)]].concat();
+    assert_eq!(all.only("id", &plot.name("profile")).1.points(), profile);
+    let earth = [&[(LEFT, TOP + HEIGHT)], &profile[..], &[(plot.right(), TOP + HEIGHT)]].concat();
     assert_eq!(all.only("class", "earth").1.points(), earth);
 }
 
-/// The tint of the plot and the parts that are cut out of the road.
-fn compare_zones(drawn: &Drawn, plot: &Plot, all: &Elements) {
+/// The tint of the plot and the parts that are cut out of the road, on a stretch that is so high.
+fn compare_zones(drawn: &Drawn, plot: &Plot, height: i64, all: &Elements) {
     let [lacking, decision_lacking, reduced, not_judged, _] = &drawn.zones;
     for (attribute, value, zones) in [
-        ("class", "tint", lacking),
-        ("id", "S", lacking),
-        ("id", "R", reduced),
-        ("id", "D", decision_lacking),
-        ("id", "ns", not_judged),
+        ("class", "tint".to_string(), lacking),
+        ("id", plot.name("S"), lacking),
+        ("id", plot.name("R"), reduced),
+        ("id", plot.name("D"), decision_lacking),
+        ("id", plot.name("ns"), not_judged),
     ] {
-        let group = all.only(attribute, value).0;
+        let group = all.only(attribute, &value).0;
         assert_eq!(all.rectangles(group), plot.zones(zones, TOP, HEIGHT), "{value}");
     }
-    let line = all.with("href", "#profile").map(|part| (part.get("class"), part.get("clip-path")));
-    let parts = [
-        ("road ns", "url(#ns)"),
-        ("road", "url(#judged)"),
-        ("road D", "url(#D)"),
-        ("road R", "url(#R)"),
-        ("road S", "url(#S)"),
-    ];
+    let profile = format!("#{}", plot.name("profile"));
+    let line = all.with("href", &profile).map(|part| (part.get("class"), part.get("clip-path").to_string()));
+    let parts = [("road ns", "ns"), ("road", "judged"), ("road D", "D"), ("road R", "R"), ("road S", "S")];
+    let parts = parts.map(|(class, part)| (class, format!("url(#{})", plot.name(part))));
     assert_eq!(line.collect::<Vec<_>>(), parts);
-    let judged = all.only("id", "judged").0;
+    let judged = all.only("id", &plot.name("judged")).0;
     let paths: Vec<_> = all.inside(judged).map(Element::path).collect();
     let right = plot.across(2 * i64::from(not_judged[0][0]) - 1);
-    assert_eq!(paths, [("MHVHZ".to_string(), vec![0, 0, right, all.height(), 0])]);
+    assert_eq!(paths, [("MHVHZ".to_string(), vec![0, 0, right, height, 0])]);
 }
 
 /// A strip for each of these lists of zones, and no other.
-fn compare_strips(lists: &[Vec<[u16; 2]>], plot: &Plot, all: &Elements) {
+fn compare_strips(lists: &[Vec<[u32; 2]>], plot: &Plot, all: &Elements) {
     assert_eq!(all.with("class", "lane").count(), lists.len());
     for (place, (zones, [class, letter, meaning])) in lists.iter().zip(STRIPS).enumerate() {
         let (strip, group) = all.only("class", class);
@@ -117,28 +132,35 @@ fn compare_strips(lists: &[Vec<[u16; 2]>], plot: &Plot, all: &Elements) {
 
 /// A strip in a group: its bars from their upper edge on, the labels at a height, and the number of zones.
 fn compare_strip(
-    zones: &[[u16; 2]],
+    zones: &[[u32; 2]],
     labels: &[(i64, String)],
     [top, height]: [i64; 2],
     plot: &Plot,
     all: &Elements,
     group: usize,
 ) {
-    assert_eq!(all.rectangles(group), plot.zones(zones, top, 1_800));
+    let bars = plot.zones(zones, top, 1_800);
+    assert_eq!(all.rectangles(group), bars);
     let stations: Vec<&Element> = all.inside(group).filter(|element| element.get("class") == "zone").collect();
     assert!(stations.iter().all(|station| station.number("y") == height));
     assert_eq!(stations.into_iter().map(Element::label).collect::<Vec<_>>(), labels);
-    let plural = if zones.len() == 1 { "" } else { "s" };
-    let tally = format!("{} zone{plural}", zones.len());
-    assert!(all.inside(group).any(|element| element.text == tally), "{tally}");
+    let plural = if bars.len() == 1 { "" } else { "s" };
+    let tally = (plot.right() + 1_200, format!("{} zone{plural}", bars.len()));
+    let texts = all.inside(group).filter(|element| element.name == "text" && element.text.contains(" zone"));
+    assert!(texts.map(Element::label).any(|text| text == tally), "{tally:?}");
+    let lanes = all.inside(group).filter(|element| element.get("class") == "lane").map(|lane| lane.path().1);
+    let lane = vec![LEFT, top, plot.right(), top + 1_800, LEFT];
+    assert!(lanes.into_iter().any(|own| own == lane), "{lane:?}");
 }
 
-/// The grid's lines and their numbers: first those of the stations, then those of the heights.
-fn compare_axes(plot: &Plot, all: &Elements) {
-    let stations = plot.stations();
+/// The grid's lines and their numbers, on a stretch that is so high: first those of the stations, then those of the heights.
+fn compare_axes(plot: &Plot, height: i64, all: &Elements) {
+    let stations = plot.station_numbers();
     let numbers = all.with("y", "64000").filter(|element| element.get("class") == "middle").map(Element::label);
     let expected: Vec<_> = stations.iter().map(|&(x, station)| (x, station.to_string())).collect();
     assert_eq!(numbers.collect::<Vec<_>>(), expected);
+    let unit = all.with("y", "64000").find(|element| element.get("class").is_empty()).expect("the axis has its unit");
+    assert_eq!(unit.label(), (plot.right() + 3_000, "station, m".to_string()));
 
     let heights = plot.heights();
     let numbers = all.with("class", "height").map(|element| {
@@ -148,9 +170,10 @@ fn compare_axes(plot: &Plot, all: &Elements) {
     assert_eq!(numbers.collect::<Vec<_>>(), heights);
 
     let [frame] = all.with("class", "frame").collect::<Vec<_>>()[..] else { panic!("one frame") };
-    assert_eq!(["x", "y", "width", "height"].map(|name| frame.number(name)), [LEFT, TOP, WIDTH, HEIGHT]);
-    let upright = |&(x, _): &(i64, i64)| vec![x, TOP, TOP + HEIGHT, x, 66_800, all.height() - 1_400];
-    let across = |&(y, ..): &(i64, i64, usize)| vec![LEFT, y, LEFT + WIDTH];
+    let edges = [LEFT, TOP, plot.right() - LEFT, HEIGHT];
+    assert_eq!(["x", "y", "width", "height"].map(|name| frame.number(name)), edges);
+    let upright = |&(x, _): &(i64, i64)| vec![x, TOP, TOP + HEIGHT, x, 66_800, height - 1_400];
+    let across = |&(y, ..): &(i64, i64, usize)| vec![LEFT, y, plot.right()];
     let lines: Vec<_> = stations.iter().map(upright).chain(heights.iter().map(across)).collect();
     assert_eq!(all.with("class", "grid").map(|line| line.path().1).collect::<Vec<_>>(), lines);
 }
@@ -166,12 +189,10 @@ fn metres(text: &str) -> (i64, usize) {
     (if size == text { units } else { -units }, decimals.len())
 }
 
-/// The numbers above the curves, that of a changed one among them.
+/// The numbers above the curves, where a changed one comes first.
 fn compare_curve_numbers(road: &Road, changed: Option<usize>, plot: &Plot, all: &Elements) {
     let numbers: Vec<_> = all.with("y", "11500").map(Element::label).collect();
     assert_eq!(numbers, plot.curve_numbers(road, changed));
-    let has = |place: usize| numbers.iter().any(|(_, number)| *number == place.to_string());
-    assert!(changed.is_none_or(has), "{changed:?} of {road:?}");
 }
 
 // ---- roads
@@ -210,13 +231,59 @@ fn edges() {
     for length in [1, 2, 20, 21, 7_999, 8_000] {
         for start_height in [-10_000_000, 0, 90_000_000] {
             for first_grade in [-1_500, -1, 0, 1, 1_500] {
-                let road = Road { speed: 20, purpose: 1, length, start_height, first_grade, curves: Vec::new() };
-                assert_eq!(compare(&road), 2);
+                assert_eq!(compare(&straight(length, start_height, first_grade)), 2);
             }
         }
     }
     compare(&roads::longest(&mut Random::new(73)));
     compare(&Road { speed: 30, ..roads::full(&mut Random::new(75)) });
+}
+
+/// A road without curves, in the version that takes its length.
+fn straight(length: u32, start_height: i32, first_grade: i16) -> Road {
+    let version = if length > 8_000 { 2 } else { 1 };
+    Road { version, speed: 20, purpose: 1, length, start_height, first_grade, curves: Vec::new() }
+}
+
+/// The lengths at which there is a stretch more, or the stretches are longer by a step, and the longest road.
+#[test]
+fn edges_of_stretches() {
+    for (length, stretches, across) in [
+        (8_001, 2, 4_500),
+        (9_000, 2, 4_500),
+        (9_001, 2, 5_000),
+        (16_000, 2, 8_000),
+        (16_001, 3, 5_500),
+        (97_500, 13, 7_500),
+        (97_501, 13, 8_000),
+        (100_000, 13, 8_000),
+    ] {
+        let road = straight(length, 0, if length % 2 == 0 { -1_500 } else { 3 });
+        assert_eq!(compare(&road), 2);
+        let text = Drawn::of(&road).picture(&road);
+        assert_eq!(text.matches("<g class=\"stretch\"").count(), stretches - 1, "{length}");
+        assert!(text.contains(&format!("<polyline id=\"profile-{across}\"")), "{length}");
+    }
+}
+
+/// Runs of short crests over the end of a stretch, some with a curve across it, and other long roads.
+#[test]
+fn long_roads() {
+    let mut random = Random::new(126);
+    let (mut zones, mut across) = (0, 0);
+    for round in 0..24 {
+        let mut road = if round % 4 == 0 {
+            roads::any_long_road(&mut random)
+        } else {
+            let run = roads::run_of_crests(&mut random, 300);
+            let before = 8_000 - random.within(0..=run.length);
+            Road { length: random.one_of(&[15_900, 16_000]), ..roads::moved(roads::steeper(run), before) }
+        };
+        road.speed = random.one_of(&[20, 25, 30]);
+        across += road.curves.iter().filter(|curve| curve.begin() < 8_000 && 8_000 < curve.end()).count();
+        zones += compare(&road);
+    }
+    assert!(zones > 100 && across > 3, "{zones} zones, {across} curves across the end of a stretch");
 }
 
 /// Two pictures to the byte: the README's, which has curves, and that of the rules' example, which has a break.

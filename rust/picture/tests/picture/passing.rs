@@ -7,21 +7,32 @@ use sight_tests::reference::file::read;
 use sight_tests::reference::road::Road;
 use sight_tests::roads::{self, EXAMPLE};
 
-use crate::compare_strips;
 use crate::elements::Elements;
 use crate::page::LETTER;
 use crate::rules::Plot;
+use crate::{compare_axes, compare_stretches, compare_strips, straight};
 
 /// The classes of all bars, and the ground that they stand on.
 const CLASSES: [&str; 8] = ["S", "D", "R", "ns", "nd", "P", "np", "lane"];
 
 // ---- the comparison
-/// Compares a road's picture that has these zones of passing with the second calculation, and with the picture that
-/// has none.
-fn compare(road: &Road, distance: u32, zones: &[Vec<[u16; 2]>; 2]) {
+/// Compares a road's picture that has these zones of passing with the second calculation, and where the road has one stretch
+/// with the picture that has none.
+fn compare(road: &Road, distance: u32, zones: &[Vec<[u32; 2]>; 2]) {
     let drawn = Drawn::of(road);
     let text = svg(&drawn.profile(road, Some(Passing { distance, zones })));
-    compare_strips(&[&drawn.zones[..], zones].concat(), &Plot::of(&drawn.heights), &Elements::of(&text));
+    let plots = Plot::all(&[&drawn.heights]);
+    for (plot, all) in plots.iter().zip(compare_stretches(&text, plots.len(), 98_800)) {
+        compare_strips(&[&drawn.zones[..], zones].concat(), plot, &all);
+        compare_axes(plot, 98_800, &all);
+    }
+    if plots.len() == 1 {
+        compare_with_none(road, &drawn, distance, &text);
+    }
+}
+
+/// The picture differs from the one without zones of passing by two rows, and by what follows from them.
+fn compare_with_none(road: &Road, drawn: &Drawn, distance: u32, text: &str) {
     let key = r#"<path class="crest" d="M1500 "#;
     let (before, rest) = text.split_once(r#"<g class="P""#).expect("there is a row P");
     let (rows, behind) = rest.split_once(key).expect("the key of the curves stands behind the rows");
@@ -50,7 +61,7 @@ fn changed(picture: &str, distance: u32) -> String {
 
 // ---- zones
 /// Zones one behind the other on a road of this length, most of them of few stations.
-fn any_zones(random: &mut Random, length: u32) -> Vec<[u16; 2]> {
+fn any_zones(random: &mut Random, length: u32) -> Vec<[u32; 2]> {
     let mut zones = Vec::new();
     let mut free = 0;
     loop {
@@ -59,7 +70,7 @@ fn any_zones(random: &mut Random, length: u32) -> Vec<[u16; 2]> {
         if last > length {
             return zones;
         }
-        zones.push([first as u16, last as u16]);
+        zones.push([first, last]);
         free = last + 2;
     }
 }
@@ -92,7 +103,7 @@ fn random_roads() {
             _ => roads::run_of_crests(&mut random, 200),
         };
         let drawn = Drawn::of(&road);
-        let distance = random.within(1..=road.length);
+        let distance = random.within(1..=road.length.min(500));
         let zones = &drawn.passing_zones(distance);
         compare(&road, distance, zones);
         both += usize::from(zones.iter().all(|zones| !zones.is_empty()));
@@ -100,19 +111,34 @@ fn random_roads() {
     assert!(both > 50, "{both} roads with zones of both kinds");
 }
 
+/// Every other station alone.
+fn alone(length: u32) -> Vec<[u32; 2]> {
+    (0..=length).step_by(2).map(|station| [station; 2]).collect()
+}
+
 /// No zone, all stations, every other station alone, and the road's ends.
 #[test]
 fn edges() {
-    for length in [1, 2, 20, 300, 8_000] {
-        let road = Road { speed: 20, purpose: 1, length, start_height: 0, first_grade: 0, curves: Vec::new() };
-        let last = length as u16;
-        let alone: Vec<[u16; 2]> = (0..=last).step_by(2).map(|station| [station; 2]).collect();
-        let lists = [vec![], vec![[0, last]], alone, vec![[0, 0]], vec![[last, last]]];
+    for length in [1, 2, 20, 300, 8_000, 8_001] {
+        let road = straight(length, 0, 0);
+        let lists = [vec![], vec![[0, length]], alone(length), vec![[0, 0]], vec![[length, length]]];
         for (place, lacking) in lists.iter().enumerate() {
             let not_judged = &lists[(place + 1) % lists.len()];
             compare(&road, length, &[lacking.clone(), not_judged.clone()]);
         }
     }
+}
+
+/// Zones of any kind on roads of several stretches, and so many on the longest that a picture of more than proportional time would
+/// be felt.
+#[test]
+fn long_roads() {
+    let mut random = Random::new(127);
+    for length in [12_000, 16_000, 40_000] {
+        let lists = [(); 2].map(|()| any_zones(&mut random, length));
+        compare(&straight(length, 0, 0), 8_000, &lists);
+    }
+    compare(&straight(100_000, 0, 0), 1, &[alone(100_000), alone(100_000)]);
 }
 
 // ---- words and colours
@@ -129,7 +155,7 @@ fn the_longest_headings() {
         decision: 1_000,
         first_grade: 0,
         curves: &[],
-        heights: &[0; 8_001],
+        heights: &vec![0; 100_001],
         zones: &[vec![], vec![], vec![], vec![], vec![]],
         passing,
     }));

@@ -12,7 +12,8 @@ use crate::elements::{Elements, Outline};
 use crate::page::{BOLD_LETTER, LETTER};
 use crate::rules::Plot;
 use crate::{
-    compare_axes, compare_curve_numbers, compare_headings, compare_profile, compare_strip, compare_zones, STRIPS,
+    compare_axes, compare_curve_numbers, compare_headings, compare_profile, compare_stretches, compare_strip,
+    compare_zones, straight, STRIPS,
 };
 
 // ---- the comparison
@@ -21,21 +22,27 @@ fn compare(change: &Change) -> u32 {
     let drawn = change.drawn();
     let text = change.picture(&drawn);
     let [before, after] = drawn;
-    let plot = Plot::of_both(&before.heights, &after.heights);
-    let all = Elements::of(&text);
-    assert_eq!(all.height(), 108_000);
+    let plots = Plot::all(&[&before.heights, &after.heights]);
     let [old, new] = [&change.before, &change.after].map(|road| road.curves[change.place]);
     let [place, pvi] = [change.place as u32, new.pvi];
     let words = format!(": curve {place}, PVI {pvi} m, length {} m &#8594; {} m", old.length, new.length);
-    compare_headings(&change.after, &after, &plot, &text, &words);
-    compare_profile(&after, &plot, &all);
-    compare_zones(&after, &plot, &all);
-    compare_axes(&plot, &all);
-    compare_pairs(&before, &after, &plot, &all);
-    let curves = plot.curves(&change.after, &after.heights, Some((change.place, &old)));
-    assert_eq!(all.outlines()[5..], curves, "{:?}", change.after);
-    compare_curve_numbers(&change.after, Some(change.place), &plot, &all);
-    compare_old_road(&before, &after, &plot, &all);
+    compare_headings(&change.after, &after, &plots[0], &text, &words);
+    let stretches = compare_stretches(&text, plots.len(), 108_000);
+    for (place, (plot, all)) in plots.iter().zip(&stretches).enumerate() {
+        compare_profile(&after, plot, all);
+        compare_zones(&after, plot, 108_000, all);
+        compare_axes(plot, 108_000, all);
+        compare_pairs(&before, &after, plot, all);
+        let curves = plot.curves(&change.after, &after.heights, Some((change.place, &old)));
+        // The key of the lines stands above the first stretch, that of the shapes above each.
+        let keys = if place == 0 { 5 } else { 3 };
+        assert_eq!(all.outlines()[keys..], curves, "{:?}", change.after);
+        compare_curve_numbers(&change.after, Some(change.place), plot, all);
+        compare_old_road(&before, &after, plot, all);
+    }
+    let numbers = Elements::of(&text).with("y", "11500").map(|number| number.label().1).collect::<Vec<_>>();
+    assert!(numbers.contains(&change.place.to_string()), "{:?}", change.after);
+    let all = &stretches[0];
     let differing = before.differing(&after);
     let verb = if differing == 1 { "differs" } else { "differ" };
     let count = format!("{differing} of {} stations {verb}", before.heights.len());
@@ -60,19 +67,22 @@ fn compare_pairs(before: &Drawn, after: &Drawn, plot: &Plot, all: &Elements) {
 }
 
 /// The profile of the road as it is, over the changed road, from the station before the first height that differs to the one behind
-/// the last.
+/// the last, as far as the stretch has them.
 fn compare_old_road(before: &Drawn, after: &Drawn, plot: &Plot, all: &Elements) {
-    let mut lines = all.with("id", "old");
-    let mut uses = (0..).zip(&all.0).filter(|(_, line)| line.name == "use" && line.get("href") == "#old");
+    let (name, used, changed) =
+        (plot.name("old"), format!("#{}", plot.name("old")), format!("url(#{})", plot.name("S")));
+    let mut lines = all.with("id", &name);
+    let mut uses = (0..).zip(&all.0).filter(|(_, line)| line.name == "use" && line.get("href") == used);
     let differ = |&station: &usize| before.heights[station] != after.heights[station];
-    let stations: Vec<usize> = (0..before.heights.len()).filter(differ).collect();
+    let stations: Vec<usize> = plot.stations().filter(differ).collect();
     if let Some((first, last)) = stations.first().zip(stations.last()) {
         let line = lines.next().expect("a line of the road as it is");
-        assert_eq!(line.points(), plot.profile(&before.heights)[first - 1..=last + 1]);
+        let seen = (first - 1).max(*plot.stations().start())..=(last + 1).min(*plot.stations().end());
+        assert_eq!(line.points(), plot.profile(&before.heights, seen));
         for class in ["old halo", "old line"] {
             let (place, line) = uses.next().expect("the line is drawn, over a pale band");
             assert_eq!(line.get("class"), class);
-            assert!(place > all.only("clip-path", "url(#S)").0, "it lies over the changed road");
+            assert!(place > all.only("clip-path", &changed).0, "it lies over the changed road");
         }
     }
     assert!(lines.next().is_none() && uses.next().is_none(), "one line where they differ, else none");
@@ -125,9 +135,13 @@ fn edges() {
     {
         for length in [2_000, 8_000] {
             let curves = vec![road::Curve { pvi: 1_000, length: old, grade_out }];
-            let road = Road { speed: 20, purpose: 1, length, start_height: 0, first_grade: 0, curves };
+            let road = Road { curves, ..straight(length, 0, 0) };
             compare(&Change::of(&road, 0, new).expect("both lengths are accepted"));
         }
+        // No preview takes a road of two stretches, and the picture has the change in both.
+        let curves = vec![road::Curve { pvi: 7_990, length: old, grade_out }];
+        let road = Road { curves, ..straight(15_999, 0, 0) };
+        compare(&Change::of(&road, 0, new).expect("both lengths are accepted"));
     }
 }
 
@@ -206,8 +220,7 @@ fn labels_of_what_changes() {
         length: 10,
         grade_out: if place % 2 == 0 { -600 } else { 600 },
     });
-    let road =
-        Road { speed: 40, purpose: 1, length: 8_000, start_height: 0, first_grade: 600, curves: curves.collect() };
+    let road = Road { speed: 40, curves: curves.collect(), ..straight(8_000, 0, 600) };
     let change = Change::of(&road, 6, 220).expect("it is accepted");
     compare(&change);
     let all = Elements::of(&change.picture(&change.drawn()));
