@@ -73,7 +73,7 @@ pub fn list(given: &Given, output: &mut Output) -> Result<u8, Trouble> {
         let file = input::road_file(path)?;
         let length = exports::list_road_file(&file, &mut text).map_err(Trouble::refused(path))?;
         output.write(&text[..length as usize])?;
-        roadtext::accept(&file).map(drop).map_err(Trouble::refused(path))
+        exports::short_stations(&file).map(drop).map_err(Trouble::refused(path))
     })
 }
 

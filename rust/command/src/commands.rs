@@ -85,7 +85,8 @@ station.
   R  reduced decision zone: stopping sight is there, decision sight is not
   s  stopping is not judged: the road ends too soon
   d  the decision is not judged
-The listing of a refused file is one line, 'refused' and the number.",
+The listing of a refused file is one line, 'refused' and the number. A road over
+8000 m is refused 8 here; 'vcp report' takes it.",
         operands: FILES,
         options: &[],
         run: answers::list,
@@ -129,7 +130,7 @@ where the object is hidden first, at the farthest distance, or with the road.",
         details: "\
 HEIGHTS is CSV as 'vcp heights' writes it, with or without the header: on each
 line a station and its height in m, with at most four decimals, one line a
-metre, at most 8001 of them. The first station may be any. A gap, a station
+metre, at most 100001 of them. The first station may be any. A gap, a station
 twice or a line that cannot be read is an error with its line. Without --grade
 the road is taken as level: give the grade that 'vcp report' names for it.",
         operands: Operands { names: &["HEIGHTS"], more: false },
@@ -144,7 +145,9 @@ The heights are stretched; the picture says how many times. The stopping and
 the decision distance are those on the least of the road's grades, or 0 if none
 is negative. Above the curves stand their places, counted from 0, where there is
 room. Where a passing distance is given there are two rows more: where passing
-sight is lacking, and where passing is not judged.",
+sight is lacking, and where passing is not judged. A road over 8000 m is drawn
+in stretches of at most 8000 m, one below the other; a zone or a curve that goes
+on in the next stretch stands in both.",
         operands: ONE_FILE,
         options: &[choice("--passing", "M", "the passing distance ('vcp passing-distance')"), OUTPUT],
         run: answers::plot,
@@ -165,7 +168,7 @@ counted from 0, in the order of 'vcp text': these are the numbers above the
 curves in the picture of 'vcp plot'. The road itself is not touched: no file is
 written unless -o names one for the changed road, and that may be neither FILE
 nor - nor a name in .svg. A refusal of the changed road names it as 'FILE with
-curve ...'.",
+curve ...'. A road over 8000 m is refused 8 here.",
         operands: ONE_FILE,
         options: &[
             needed("--curve", "K", "the curve's place, counted from 0"),
@@ -201,12 +204,14 @@ Each line of the text has one item; what follows a # is a comment.
   start height 102.5 m
   first grade 4.00 %
   curve 480 m, 60 m, -2.00 %
-The first five stand once each, in any order. Curves stand in the road's order,
-each with its PVI, its length and its grade out; there are at most 32. One of
-length 0 is a break in grade: by more than 0.50 % it is refused 25. A space
-parts a number from its unit. The start height may have four decimals and a
-grade two; the other numbers are whole. Purposes 1 to 5 are the decisions A to
-E. The text has at most 1 MiB.
+The first five stand once each, in any order. A line 'version 2' makes the file
+one of version 2, whose road has at most 100000 m; with 'version 1', or without
+such a line, it is of version 1, and its road has at most 8000 m. Curves stand
+in the road's order, each with its PVI, its length and its grade out; there are
+at most 32. One of length 0 is a break in grade: by more than 0.50 % it is
+refused 25. A space parts a number from its unit. The start height may have four
+decimals and a grade two; the other numbers are whole. Purposes 1 to 5 are the
+decisions A to E. The text has at most 1 MiB.
 What cannot be read, and what is refused of the road, is said with its line.",
         operands: Operands { names: &["TEXT"], more: false },
         options: &[OUTPUT],

@@ -31,10 +31,10 @@ usage: vcp COMMAND ...
        vcp --version
 
 {commands}
-FILE is a road file; 'vcp road' makes one. The name - is standard input, or
-standard output behind -o. Stations, lengths and heights are in metres, grades
-in percent, speeds in km/h. The value of a long option may also follow an '=',
-and that of -o its letter. What follows -- is no option.
+FILE is a road file of version 1 or 2; 'vcp road' makes one. The name - is
+standard input, or standard output behind -o. Stations, lengths and heights are
+in metres, grades in percent, speeds in km/h. The value of a long option may
+also follow an '=', and that of -o its letter. What follows -- is no option.
 
 Every answer is that of a proved function. A refusal is one line on standard
 error: the file, 'refused', the number, the reason. Of several files the others

@@ -1,6 +1,6 @@
 //! What the proved functions say of a road file, or of heights.
 
-use exports::{Refusal, GREATEST_LISTING, MARKED_STATIONS, MOST_ENDS, PASSING_LACKING_BIT, PASSING_NOT_JUDGED_BIT};
+use exports::{Refusal, LONG_STATIONS, MOST_ENDS, PASSING_LACKING_BIT, PASSING_NOT_JUDGED_BIT, SHORT_STATIONS};
 
 use crate::{purpose, tables};
 
@@ -8,14 +8,14 @@ use crate::{purpose, tables};
 pub const LETTERS: [u8; 5] = *b"SDRsd";
 
 /// The first and last stations of zones, ascending.
-pub type Ends = Vec<[u16; 2]>;
+pub type Ends = Vec<[u32; 2]>;
 
 /// The zones of each letter.
 pub type Zones = [Ends; 5];
 
 /// The zones of a bit of marks.
 fn zones_of(marks: &[u8], bit: u32) -> Result<Ends, Refusal> {
-    let mut ends = [0; MOST_ENDS];
+    let mut ends = vec![0; MOST_ENDS];
     let many = exports::zones(marks, bit, &mut ends)? as usize;
     Ok(ends[..2 * many].chunks_exact(2).map(|pair| [pair[0], pair[1]]).collect())
 }
@@ -62,22 +62,21 @@ pub struct Judgement {
 }
 
 impl Judgement {
-    /// That of a road file, from its listing and the grade that it is marked with.
+    /// That of a road file.
     pub fn of_road(file: &[u8]) -> Result<Judgement, Refusal> {
-        let [_, purpose, ..] = roadtext::road_numbers(file)?.head;
-        let grade = exports::file_grade(file)?;
-        let mut text = vec![0; GREATEST_LISTING];
-        let bytes = exports::list_road_file(file, &mut text)?;
-        let stations = exports::file_heights(file, &mut [0; MARKED_STATIONS])?;
-        let mut lines = text[..bytes as usize].split(|&byte| byte == b'\n');
-        let [_, speed, stopping, decision] = numbers(lines.next().unwrap_or_default());
-        let mut zones = Zones::default();
-        for line in lines {
-            if let Some(bit) = LETTERS.iter().position(|letter| line.first() == Some(letter)) {
-                zones[bit].push(numbers(line).map(|station| station as u16));
-            }
-        }
-        Ok(Judgement { speed, purpose: purpose as u32, grade, stopping, decision, stations, zones })
+        let [_, speed, purpose, ..] = roadtext::road_numbers(file)?.head;
+        let mut marks = vec![0; LONG_STATIONS];
+        let stations = exports::mark_file(file, &mut marks)?;
+        marks.truncate(stations as usize);
+        Ok(Judgement {
+            speed: speed as u32,
+            purpose: purpose as u32,
+            grade: exports::file_grade(file)?,
+            stopping: exports::file_stopping(file)?,
+            decision: exports::file_decision(file)?,
+            stations,
+            zones: zones_by_letter(&marks)?,
+        })
     }
 
     /// That of heights, one a metre.
@@ -110,7 +109,7 @@ pub struct Preview {
 impl Preview {
     /// That of a road file and another length in metres of the curve at a place, counted from 0.
     pub fn of_road(file: &[u8], place: u32, length: u32) -> Result<Preview, Refusal> {
-        let [mut marks, mut changed_marks] = [[0; MARKED_STATIONS]; 2];
+        let [mut marks, mut changed_marks] = [[0; SHORT_STATIONS]; 2];
         let differing = exports::preview(file, place, length, &mut marks, &mut changed_marks)?;
         let mut changed = vec![0; file.len()];
         exports::change_length(file, place, length, &mut changed)?;
@@ -125,13 +124,4 @@ impl Preview {
 /// The bits of marks that other marks do not have.
 fn without(marks: &[u8], others: &[u8]) -> Vec<u8> {
     marks.iter().zip(others).map(|(mark, other)| mark & !other).collect()
-}
-
-/// The numbers behind the first word of a line of a listing.
-fn numbers<const MANY: usize>(line: &[u8]) -> [u32; MANY] {
-    let mut items = line.split(|&byte| byte == b' ').skip(1);
-    [(); MANY].map(|()| {
-        let digits = items.next().unwrap_or_default();
-        digits.iter().fold(0, |number, digit| 10 * number + u32::from(digit - b'0'))
-    })
 }

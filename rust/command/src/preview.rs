@@ -16,7 +16,7 @@ use crate::report::{row, stations_in, subject, zone, zone_rows, NOWHERE};
 use crate::trouble::{shown, Trouble, ANSWERED};
 
 /// A zone before and one after, where there is one.
-type Pair = [Option<[u16; 2]>; 2];
+type Pair = [Option<[u32; 2]>; 2];
 
 /// The letters with their meanings.
 fn names() -> impl Iterator<Item = String> {
@@ -41,7 +41,7 @@ fn beside(before: &Ends, after: &Ends) -> Vec<Pair> {
 const AGAIN: &str = "\"";
 
 /// What a row says of one side, below the last zone above on that side and beside the zone of the other side.
-fn half(own: Option<[u16; 2]>, above: Option<[u16; 2]>, other: Option<[u16; 2]>) -> [String; 3] {
+fn half(own: Option<[u32; 2]>, above: Option<[u32; 2]>, other: Option<[u32; 2]>) -> [String; 3] {
     match (own, above, other) {
         (Some(ends), ..) => zone(ends, 0),
         (None, Some([_, last]), Some([first, _])) if first <= last + 1 => [AGAIN, "", ""].map(str::to_string),
@@ -156,8 +156,10 @@ pub fn preview(given: &Given, output: &mut Output) -> Result<u8, Trouble> {
     let file_of_changed = file_of_changed(given)?;
     let (path, name) = (given.file(), shown(given.file()));
     let file = input::road_file(path)?;
-    let curves = roadtext::road_numbers(&file).map_err(Trouble::refused(path))?.curves;
-    // The road itself is accepted: what is refused from here on is the place, or else the changed road.
+    let refused = Trouble::refused(path);
+    exports::short_stations(&file).map_err(&refused)?;
+    // The road itself is taken: what is refused from here on is the place, or else the changed road.
+    let curves = roadtext::road_numbers(&file).map_err(&refused)?.curves;
     let changed_name = match (curves.get(place as usize), curves.len()) {
         (Some([pvi, ..]), _) => format!("{name} with curve {place}, PVI {pvi} m, {own_words} m long"),
         (None, 1) => format!("{name} with 1 curve"),
@@ -165,7 +167,7 @@ pub fn preview(given: &Given, output: &mut Output) -> Result<u8, Trouble> {
     };
     let preview = Preview::of_road(&file, place, length).map_err(Trouble::refused(changed_name))?;
     let answer = if given.is_there("--svg") {
-        picture(&file, place, &preview).map_err(Trouble::refused(path))?
+        picture(&file, place, &preview).map_err(&refused)?
     } else {
         let [pvi, old_length, _] = curves[place as usize];
         text(&format!("{name}: curve {place}, PVI {pvi} m: length {old_length} m -> {length} m"), &preview)

@@ -18,7 +18,7 @@ fn sums_header(stations: u32) -> Row {
 
 /// How many stations zones have.
 pub fn stations_in(zones: &Ends) -> u32 {
-    zones.iter().map(|&[first, last]| u32::from(last - first) + 1).sum()
+    zones.iter().map(|&[first, last]| last - first + 1).sum()
 }
 
 /// A part of so many, in percent with one decimal, rounded.
@@ -45,8 +45,8 @@ fn sum(name: &str, distance: u32, stations: u32, [lacking, not_judged]: [&Ends; 
 pub const NOWHERE: &str = "nowhere";
 
 /// What is said of a zone: its first and its last station, and its length.
-pub fn zone([first, last]: [u16; 2], first_station: u32) -> [String; 3] {
-    let [from, to] = [first, last].map(|station| (first_station + u32::from(station)).to_string());
+pub fn zone([first, last]: [u32; 2], first_station: u32) -> [String; 3] {
+    let [from, to] = [first, last].map(|station| (first_station + station).to_string());
     [from, to, format!("{} m", last - first + 1)]
 }
 

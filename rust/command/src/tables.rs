@@ -3,7 +3,7 @@
 use std::iter::StepBy;
 use std::ops::RangeInclusive;
 
-use exports::{Look, EYE_HEIGHT, GREATEST_FARTHEST, OBJECT_HEIGHT, ROAD_STATIONS};
+use exports::{Look, EYE_HEIGHT, GREATEST_FARTHEST, LONG_STATIONS, OBJECT_HEIGHT};
 use roadtext::decimal;
 
 use crate::answers::write_answer;
@@ -20,7 +20,7 @@ const SIGHTS_HEADER: &str = "station_m,sight_m";
 
 /// The heights of a road file.
 pub fn heights_of(file: &[u8]) -> Result<Vec<i32>, exports::Refusal> {
-    let mut heights = vec![0; ROAD_STATIONS];
+    let mut heights = vec![0; LONG_STATIONS];
     let stations = exports::file_heights(file, &mut heights)?;
     heights.truncate(stations as usize);
     Ok(heights)

@@ -11,10 +11,14 @@ use std::path::{Path, PathBuf};
 use std::process::{Command, Stdio};
 use std::thread;
 
-use common::{command, expect_error, folder, root, run, run_with, Ended};
+use common::{
+    command, expect_error, folder, root, run, run_with, Ended, LONG_LIST, LONG_ROAD, NO_VERSION, SHORT_FILE,
+    WRONG_TOTAL,
+};
 use sight_tests::random::Random;
 use sight_tests::reference::file::bytes;
 use sight_tests::reference::passing::RANGES;
+use sight_tests::reference::road::{Curve, Road};
 use sight_tests::roads::{self, EXAMPLE, SHARP_BREAK, SHARP_BREAK_REASON};
 
 /// Where a file's name stands in a call.
@@ -115,10 +119,14 @@ fn shipped_roads() {
             assert!(bytes == its_bytes || named, "{arguments:?}");
         }
     }
-    for name in ["example.vcp", "level.vcp", "three-crests.vcp"] {
+    for name in ["example.vcp", "level.vcp", "three-crests.vcp", "valley.vcp"] {
         for command in OF_ROADS {
-            // The level road has no curve whose length could be another.
-            let refused = command[0] == "preview" && name == "level.vcp";
+            // The level road has no curve whose length could be another, and the valley road is too long to be listed.
+            let refused = match command[0] {
+                "preview" => ["level.vcp", "valley.vcp"].contains(&name),
+                "list" => name == "valley.vcp",
+                _ => false,
+            };
             let ended = run(&root().join("roads"), &on(command, name));
             assert_eq!(ended.status, i32::from(refused), "{command:?} {name}");
         }
@@ -143,12 +151,53 @@ fn refused_and_empty_files() {
     for command in OF_ROADS {
         expect_refused(&folder, command, "sharp.vcp", 25, SHARP_BREAK_REASON);
         expect_refused(&folder, command, "slow.vcp", 6, "the speed is not 20 to 130 km/h");
-        expect_refused(&folder, command, "empty", 1, "the file has fewer than 16 bytes");
+        expect_refused(&folder, command, "empty", 1, SHORT_FILE);
     }
-    expect_refused(&folder, CHECK, "empty", 19, "the list of heights or marks is empty or longer than 8,001");
+    expect_refused(&folder, CHECK, "empty", 19, LONG_LIST);
     let missing = ["speed", "purpose", "length", "start height", "first grade"];
     let lines: String = missing.iter().map(|name| format!("empty:1: the line {name} is missing\n")).collect();
     expect_error(&folder, &on(ROAD, "empty"), 2, &lines);
+}
+
+/// Every command takes both versions, and all but the listing and the preview take roads over 8,000 m.
+#[test]
+fn versions_and_long_roads() {
+    let folder = folder("habits_versions");
+    let curves = vec![Curve { pvi: 5_000, length: 10, grade_out: -600 }];
+    let road = |version: u16, length: u32| Road {
+        version,
+        speed: 40,
+        purpose: 1,
+        length,
+        start_height: 0,
+        first_grade: 600,
+        curves: curves.clone(),
+    };
+    for (version, length) in [(1, 8_000), (2, 8_000), (2, 8_001), (2, 100_000)] {
+        fs::write(folder.join("a.vcp"), bytes(&road(version, length))).unwrap();
+        for command in OF_ROADS {
+            if length > 8_000 && ["list", "preview"].contains(&command[0]) {
+                expect_refused(&folder, command, "a.vcp", 8, LONG_ROAD);
+            } else {
+                let ended = run(&folder, &on(command, "a.vcp"));
+                assert_eq!((ended.errors.as_str(), ended.status), ("", 0), "{command:?}, {version}, {length}");
+            }
+        }
+    }
+    let file = bytes(&road(2, 8_000));
+    for many in [15, 16, 17] {
+        fs::write(folder.join("a.vcp"), &file[..many]).unwrap();
+        OF_ROADS.iter().for_each(|command| expect_refused(&folder, command, "a.vcp", 1, SHORT_FILE));
+    }
+    for many in [18, 25] {
+        fs::write(folder.join("a.vcp"), &file[..many]).unwrap();
+        OF_ROADS.iter().for_each(|command| expect_refused(&folder, command, "a.vcp", 5, WRONG_TOTAL));
+    }
+    for version in [0, 3, 256, 513] {
+        let others = [&file[..3], &u16::to_le_bytes(version), &file[5..16]].concat();
+        fs::write(folder.join("a.vcp"), others).unwrap();
+        OF_ROADS.iter().for_each(|command| expect_refused(&folder, command, "a.vcp", 3, NO_VERSION));
+    }
 }
 
 /// A directory, and a file that is not there, cannot be read.
@@ -175,15 +224,14 @@ fn large_files() {
     let folder = folder("habits_large");
     large(&folder, "zeros", b"");
     large(&folder, "road", &EXAMPLE);
-    let heights: String = (0..9_000).map(|station| format!("{station},100.0\n")).collect();
+    let heights: String = (0..110_000).map(|station| format!("{station},100.0\n")).collect();
     large(&folder, "heights", heights.as_bytes());
     for command in OF_ROADS {
         expect_refused(&folder, command, "zeros", 2, "the file does not begin with the letters VCP");
-        let reason = "the file's total length is not 16 bytes and 6 for each curve";
-        expect_refused(&folder, command, "road", 5, reason);
+        expect_refused(&folder, command, "road", 5, WRONG_TOTAL);
     }
     expect_error(&folder, &on(CHECK, "zeros"), 2, "zeros:1: the line has 1000 bytes or more\n");
-    expect_refused(&folder, CHECK, "heights", 19, "the list of heights or marks is empty or longer than 8,001");
+    expect_refused(&folder, CHECK, "heights", 19, LONG_LIST);
     expect_error(&folder, &on(ROAD, "zeros"), 2, "zeros: a text of more than 1048576 bytes is not read\n");
 }
 
@@ -257,7 +305,7 @@ fn answers_and_complaints_in_order() {
     running.args(["list", "three-crests.vcp", "empty", "three-crests.vcp"]).current_dir(&folder);
     running.stdout(both.try_clone().expect("a file has two handles")).stderr(both);
     assert_eq!(running.status().expect("the command ends").code(), Some(1));
-    let refused = "refused 1\nempty: refused 1: the file has fewer than 16 bytes\n";
+    let refused = format!("refused 1\nempty: refused 1: {SHORT_FILE}\n");
     assert_eq!(fs::read_to_string(folder.join("both")).unwrap(), format!("{listing}{refused}{listing}"));
 }
 
@@ -394,6 +442,16 @@ fn help_is_true() {
     }
     let height = format!("eye and object being {} m high", roadtext::decimal::write(exports::EYE_HEIGHT.into(), 4, 2));
     assert!(words("passing").contains(&height) && exports::EYE_HEIGHT == exports::PASSING_OBJECT_HEIGHT);
+    let [short, long] = [exports::SHORT_STATIONS, exports::LONG_STATIONS].map(|stations| stations - 1);
+    for (name, part) in [
+        ("list", format!("A road over {short} m is refused 8 here")),
+        ("preview", format!("A road over {short} m is refused 8 here")),
+        ("plot", format!("A road over {short} m is drawn in stretches of at most 8000 m, one below the other;")),
+        ("road", format!("A line 'version 2' makes the file one of version 2, whose road has at most {long} m;")),
+        ("road", format!("without such a line, it is of version 1, and its road has at most {short} m.")),
+    ] {
+        assert!(words(name).contains(&part), "{part}");
+    }
     let letters = ["S  stopping sight is lacking", "D  decision sight is lacking", "s  stopping is not judged"];
     for line in letters.into_iter().chain(["R  reduced decision zone", "d  the decision is not judged"]) {
         assert!(help("list").contains(&format!("\n  {line}")), "{line}");

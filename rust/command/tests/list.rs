@@ -4,17 +4,18 @@ mod common;
 
 use std::fs;
 
-use common::{folder, run, run_with, Ended};
+use common::{folder, run, run_with, Ended, LONG_ROAD, SHORT_FILE, WRONG_TOTAL};
 use sight_tests::lister;
 use sight_tests::random::Random;
-use sight_tests::reference::file::{bytes, read};
+use sight_tests::reference::file::{bytes, read_short};
 use sight_tests::reference::listing::listing;
+use sight_tests::reference::road::Road;
 use sight_tests::roads::{self, EXAMPLE, EXAMPLE_LISTING, REFUSALS, SHARP_BREAK, SHARP_BREAK_REASON};
 use sight_tests::tally::Tally;
 
-/// Any road file, good or faulty, runs of short crests first of all.
+/// Any road file of either version, good or faulty, runs of short crests first of all; some are of roads over 8,000 m.
 fn any_file(random: &mut Random, round: u32) -> Vec<u8> {
-    match round % 8 {
+    match round % 9 {
         0..=2 => {
             let mut road = roads::run_of_crests(random, 100);
             road.length += random.within(0..=100);
@@ -27,9 +28,11 @@ fn any_file(random: &mut Random, round: u32) -> Vec<u8> {
         }
         // Many of these are long, and the second calculation is slow.
         6 if random.once_in(10) => roads::careless_file(random),
-        _ => {
+        7 if random.once_in(2) => bytes(&roads::any_long_road(random)),
+        number => {
             let refusal = random.one_of(&REFUSALS);
-            roads::faulty_file(random, &[refusal])
+            let faulty = if number == 7 { roads::faulty_long_file } else { roads::faulty_file };
+            faulty(random, &[refusal])
         }
     }
 }
@@ -39,7 +42,7 @@ fn expected(files: &[(String, Vec<u8>)]) -> Ended {
     let mut expected = Ended { output: String::new(), errors: String::new(), status: 0 };
     for (name, file) in files {
         expected.output += &listing(file);
-        if let Err(refusal) = read(file) {
+        if let Err(refusal) = read_short(file) {
             expected.errors += &format!("{name}: refused {refusal}: ");
             expected.status = 1;
         }
@@ -65,7 +68,7 @@ fn many_files() {
             (0..100).map(|round| (format!("{batch}-{round}.vcp"), any_file(&mut random, round))).collect();
         for (name, file) in &files {
             fs::write(folder.join(name), file).expect("a file is written");
-            tally.count(read(file).map(|road| road.length));
+            tally.count(read_short(file).map(|road| road.length));
         }
         let arguments: Vec<&str> = ["list"].into_iter().chain(files.iter().map(|(name, _)| name.as_str())).collect();
         let ended = run(&folder, &arguments);
@@ -101,6 +104,32 @@ fn example_of_the_rules() {
     assert_eq!(ended, Ended { output: EXAMPLE_LISTING.to_string(), errors: String::new(), status: 0 });
 }
 
+/// A road of either version up to 8,000 m has its listing, which begins with its version; one metre more is refused 8.
+#[test]
+fn roads_of_each_length_and_version() {
+    let folder = folder("list_long");
+    let level = |version: u16, length: u32| Road {
+        version,
+        speed: 20,
+        purpose: 1,
+        length,
+        start_height: 0,
+        first_grade: 0,
+        curves: vec![],
+    };
+    for (version, length) in [(1, 1), (2, 1), (1, 8_000), (2, 8_000)] {
+        let file = bytes(&level(version, length));
+        let ended = run_with(&folder, &["list", "-"], &file).0;
+        assert!(ended.output.starts_with(&format!("VCP {version} 20 20 25\n")), "{ended:?}");
+        assert_eq!(ended, Ended { output: listing(&file), errors: String::new(), status: 0 });
+    }
+    for (version, length) in [(1, 8_001), (2, 8_001), (2, 65_536 + 300), (2, 100_000), (2, 100_001)] {
+        let ended = run_with(&folder, &["list", "-"], &bytes(&level(version, length))).0;
+        let errors = format!("-: refused 8: {LONG_ROAD}\n");
+        assert_eq!(ended, Ended { output: "refused 8\n".to_string(), errors, status: 1 }, "{version}, {length}");
+    }
+}
+
 /// After a refused file, and one that is not there, it goes on; the status is that of the worst.
 #[test]
 fn goes_on_after_a_refused_file() {
@@ -108,7 +137,7 @@ fn goes_on_after_a_refused_file() {
     fs::write(folder.join("a.vcp"), EXAMPLE).expect("a file is written");
     fs::write(folder.join("b.vcp"), &EXAMPLE[..39]).expect("a file is written");
     fs::write(folder.join("d.vcp"), SHARP_BREAK).expect("a file is written");
-    let refused = "b.vcp: refused 5: the file's total length is not 16 bytes and 6 for each curve\n";
+    let refused = &format!("b.vcp: refused 5: {WRONG_TOTAL}\n");
     let ended = run(&folder, &["list", "a.vcp", "b.vcp", "a.vcp"]);
     assert_eq!(
         ended,
@@ -132,7 +161,7 @@ fn odd_names() {
     let folder = folder("list_names");
     for (name, shown) in [("a\nb\u{1b}[31m.vcp", "a\\nb\\u{1b}[31m.vcp"), ("--help", "--help"), ("-o", "-o")] {
         fs::write(folder.join(name), b"").expect("a file is written");
-        let errors = format!("{shown}: refused 1: the file has fewer than 16 bytes\n");
+        let errors = format!("{shown}: refused 1: {SHORT_FILE}\n");
         let ended = run(&folder, &["list", "--", name]);
         assert_eq!(ended, Ended { output: "refused 1\n".to_string(), errors, status: 1 });
     }

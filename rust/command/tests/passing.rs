@@ -4,7 +4,7 @@ mod common;
 
 use std::fs;
 
-use common::{expect, expect_error, expect_wrong, folder, root, run_with, share};
+use common::{expect, expect_error, expect_wrong, folder, root, run_with, share, SHORT_FILE};
 use sight_tests::drawn::Drawn;
 use sight_tests::pages::{block, text};
 use sight_tests::random::Random;
@@ -21,7 +21,7 @@ fn lines_of(text: &str) -> Vec<Vec<&str>> {
 fn expected(name: &str, road: &Road, distance: u32) -> Vec<Vec<String>> {
     let [lacking, not_judged] = Drawn::of(road).passing_zones(distance);
     let stations = road.length + 1;
-    let count = |zones: &[[u16; 2]]| zones.iter().map(|[first, last]| u32::from(last - first) + 1).sum::<u32>();
+    let count = |zones: &[[u32; 2]]| zones.iter().map(|[first, last]| last - first + 1).sum::<u32>();
     let judged = stations - count(&not_judged);
     let share = share(count(&lacking), judged);
     let [judged, lacks, unjudged] = [judged, count(&lacking), count(&not_judged)].map(|many| many.to_string());
@@ -76,6 +76,25 @@ fn random_roads() {
     );
 }
 
+/// Runs of short crests far out on roads over 8,000 m.
+#[test]
+fn long_roads() {
+    let folder = folder("passing_long");
+    let mut random = Random::new(122);
+    let mut lacking = 0;
+    for _ in 0..12 {
+        // The second calculation marks the road for stopping too, and is slow at a high speed.
+        let road = Road { speed: 20, ..roads::steeper(roads::far_run_of_crests(&mut random, 300)) };
+        let distance = random.within(15..=45);
+        let ended = run_with(&folder, &["passing", "-", &distance.to_string()], &bytes(&road)).0;
+        assert_eq!((ended.errors.as_str(), ended.status), ("", 0), "{road:?}");
+        let expected = expected("-", &road, distance);
+        assert_eq!(lines_of(&ended.output), expected, "{distance} m, {road:?}");
+        lacking += usize::from(expected[6] != ["passing sight lacking", "nowhere"]);
+    }
+    assert!(lacking > 5, "{lacking} roads lack passing sight");
+}
+
 /// The calls that the README shows, one behind the other.
 #[test]
 fn calls_of_the_readme() {
@@ -98,8 +117,8 @@ fn refused_roads_and_distances() {
     for distance in ["0", "8001", "4294967616"] {
         let line = "a.vcp: refused 21: the farthest or the passing distance is not 1 to 8,000 m\n";
         expect_error(&folder, &["passing", "a.vcp", distance], 1, line);
-        let line = "b.vcp: refused 1: the file has fewer than 16 bytes\n";
-        expect_error(&folder, &["passing", "b.vcp", distance], 1, line);
+        let line = format!("b.vcp: refused 1: {SHORT_FILE}\n");
+        expect_error(&folder, &["passing", "b.vcp", distance], 1, &line);
     }
     expect_wrong(&folder, &["passing", "a.vcp", "320.5"], "DISTANCE: \"320.5\" is not whole");
     expect_wrong(&folder, &["passing", "a.vcp", "--", "-320"], "DISTANCE: \"-320\" is negative");

@@ -4,10 +4,11 @@ mod common;
 
 use std::fs;
 
-use common::{expect, expect_error, expect_wrong, folder, names, root, run_with};
+use common::{expect, expect_error, expect_wrong, folder, names, root, run_with, SHORT_FILE};
 use sight_tests::drawn::Drawn;
 use sight_tests::random::Random;
 use sight_tests::reference::file::bytes;
+use sight_tests::reference::road::Road;
 use sight_tests::roads;
 
 #[test]
@@ -22,6 +23,24 @@ fn random_roads() {
         let ended = run_with(&folder, &["plot", "-"], &bytes(&road)).0;
         assert_eq!((ended.errors.as_str(), ended.status), ("", 0), "{road:?}");
         assert!(ended.output == Drawn::of(&road).picture(&road), "{road:?}");
+    }
+}
+
+/// Roads over 8,000 m, with rows for passing and without.
+#[test]
+fn long_roads() {
+    let folder = folder("plot_long");
+    let mut random = Random::new(121);
+    for round in 0..12 {
+        let road = Road { speed: random.one_of(&[20, 25, 30]), ..roads::any_long_road(&mut random) };
+        let drawn = Drawn::of(&road);
+        let (options, picture) = match round % 3 {
+            0 => (&["--passing", "40"][..], drawn.picture_with_passing(&road, 40)),
+            _ => (&[][..], drawn.picture(&road)),
+        };
+        let ended = run_with(&folder, &[&["plot", "-"], options].concat(), &bytes(&road)).0;
+        assert_eq!((ended.errors.as_str(), ended.status), ("", 0), "{road:?}");
+        assert!(ended.output == picture, "{road:?}");
     }
 }
 
@@ -79,9 +98,9 @@ fn refused_roads() {
     let folder = folder("plot_refused");
     fs::write(folder.join("a.vcp"), b"VCP").unwrap();
     fs::write(folder.join("a.svg"), "before").unwrap();
-    let line = "a.vcp: refused 1: the file has fewer than 16 bytes\n";
-    expect_error(&folder, &["plot", "a.vcp", "-o", "a.svg"], 1, line);
-    expect_error(&folder, &["plot", "a.vcp", "-o", "b.svg"], 1, line);
+    let line = format!("a.vcp: refused 1: {SHORT_FILE}\n");
+    expect_error(&folder, &["plot", "a.vcp", "-o", "a.svg"], 1, &line);
+    expect_error(&folder, &["plot", "a.vcp", "-o", "b.svg"], 1, &line);
     assert_eq!(fs::read_to_string(folder.join("a.svg")).unwrap(), "before");
     assert_eq!(names(&folder), ["a.svg", "a.vcp"]);
 }

@@ -9,7 +9,7 @@ use std::os::unix::net::UnixStream;
 use std::path::{Path, PathBuf};
 use std::process::Stdio;
 
-use common::{command, expect, expect_error, expect_wrong, folder, names, root, run, run_with};
+use common::{command, expect, expect_error, expect_wrong, folder, names, root, run, run_with, LONG_ROAD, SHORT_FILE};
 use sight_tests::drawn::{Change, Drawn};
 use sight_tests::pages::{block, text};
 use sight_tests::random::Random;
@@ -67,18 +67,18 @@ fn parts(preview: &str) -> (String, [Table; 4], String) {
 
 // ---- the second calculation
 /// What is said of a zone.
-fn zone([first, last]: [u16; 2]) -> [String; 3] {
+fn zone([first, last]: [u32; 2]) -> [String; 3] {
     [first.to_string(), last.to_string(), format!("{} m", last - first + 1)]
 }
 
 /// Whether two zones overlap or touch.
-fn meet([first, last]: [u16; 2], [begin, end]: [u16; 2]) -> bool {
+fn meet([first, last]: [u32; 2], [begin, end]: [u32; 2]) -> bool {
     begin <= last + 1 && first <= end + 1
 }
 
 /// What a row says of one side: its zone; where it has none, whether one of that side, which stands above, meets the other
 /// side's zone.
-fn half(own: Option<[u16; 2]>, zones: &[[u16; 2]], other: Option<[u16; 2]>) -> [String; 3] {
+fn half(own: Option<[u32; 2]>, zones: &[[u32; 2]], other: Option<[u32; 2]>) -> [String; 3] {
     let reaches_in = other.is_some_and(|other| zones.iter().any(|&zone| meet(zone, other)));
     let again = if reaches_in { "\"" } else { "" };
     own.map_or([again, "", ""].map(str::to_string), zone)
@@ -86,7 +86,7 @@ fn half(own: Option<[u16; 2]>, zones: &[[u16; 2]], other: Option<[u16; 2]>) -> [
 
 /// The zones of a letter before and after: each before beside the first one after that overlaps or touches it and is free, all
 /// others alone, in the order in which the rows begin.
-fn beside(before: &[[u16; 2]], after: &[[u16; 2]]) -> Vec<[Option<[u16; 2]>; 2]> {
+fn beside(before: &[[u32; 2]], after: &[[u32; 2]]) -> Vec<[Option<[u32; 2]>; 2]> {
     let mut free = after.to_vec();
     let mut rows = Vec::new();
     for &[first, last] in before {
@@ -199,7 +199,8 @@ fn random_roads() {
 fn edges() {
     let folder = folder("preview_edges");
     let crest = |length: u16| Curve { pvi: 1_000, length, grade_out: -600 };
-    let road = |length: u32, curve: Curve| Road {
+    let road = |version: u16, length: u32, curve: Curve| Road {
+        version,
         speed: 40,
         purpose: 1,
         length,
@@ -208,12 +209,14 @@ fn edges() {
         curves: vec![curve],
     };
     for (length, old, new) in [(8_000, 2, 2_000), (2_000, 2_000, 2), (2_000, 100, 100), (2_000, 60, 62)] {
-        let change = Change::of(&road(length, crest(old)), 0, new).expect("both lengths are accepted");
-        assert_eq!(compare(&folder, &change) == 0, old == new, "{old} m, {new} m");
+        for version in [1, 2] {
+            let change = Change::of(&road(version, length, crest(old)), 0, new).expect("both lengths are accepted");
+            assert_eq!(compare(&folder, &change) == 0, old == new, "{old} m, {new} m");
+        }
     }
     for (length, words) in [("2", "957 989 33 m 957 989 33 m"), ("2000", "957 989 33 m nowhere")] {
         let arguments = ["preview", "-", "--curve", "0", "--length", length];
-        let ended = run_with(&folder, &arguments, &bytes(&road(2_000, crest(2)))).0;
+        let ended = run_with(&folder, &arguments, &bytes(&road(1, 2_000, crest(2)))).0;
         let line = ended.output.lines().find_map(|line| line.strip_prefix(NAMES[0])).expect("a line of S");
         assert!(line.split_whitespace().eq(words.split(' ')), "{line}");
     }
@@ -232,7 +235,7 @@ fn zones_that_touch() {
         (169, 700, [(51, 0), (89, 300)], (0, 10), "28 29 2 m \""),
     ] {
         let curves = curves.map(|(pvi, grade_out)| Curve { pvi, length: 2, grade_out }).to_vec();
-        let road = Road { speed: 40, purpose: 1, length, start_height: 0, first_grade, curves };
+        let road = Road { version: 1, speed: 40, purpose: 1, length, start_height: 0, first_grade, curves };
         compare(&folder, &Change::of(&road, new.0, new.1).expect("it is accepted"));
         let (place, length) = (new.0.to_string(), new.1.to_string());
         let ended = run_with(&folder, &["preview", "-", "--curve", &place, "--length", &length], &bytes(&road)).0;
@@ -374,16 +377,27 @@ fn refused_changes() {
     let with_first = |many: usize| bytes(&Road { curves: road.curves[..many].to_vec(), ..road.clone() });
     fs::write(folder.join("e.vcp"), with_first(1)).unwrap();
     fs::write(folder.join("f.vcp"), with_first(0)).unwrap();
+    // The same road a little longer than any that a preview takes, and with a break at its end that is refused after that.
+    let long = Road { version: 2, length: 8_001, ..road.clone() };
+    fs::write(folder.join("g.vcp"), bytes(&long)).unwrap();
+    let sharp_end = Curve { pvi: 8_001, length: 0, grade_out: 51 };
+    fs::write(folder.join("h.vcp"), bytes(&Road { curves: [&long.curves[..], &[sharp_end]].concat(), ..long }))
+        .unwrap();
     let no_curve = "refused 26: there is no curve at this place: places are counted from 0";
     let before = "refused 13: a curve begins before the end of the curve listed just before it";
     let odd = "refused 11: a curve's length is odd or over 2,000 m";
     let sharp = &format!("refused 25: {SHARP_BREAK_REASON}");
     let outside = "refused 12: a curve begins before station 0 or ends after the road";
+    let long_road = &format!("refused 8: {LONG_ROAD}");
     for (file, curve, length, name, reason) in [
         ("b.vcp", "0", "0", "b.vcp", &sharp[..]),
         ("b.vcp", "0", "20", "b.vcp", sharp),
         ("b.vcp", "9", "81", "b.vcp", sharp),
-        ("c.vcp", "9", "81", "c.vcp", "refused 1: the file has fewer than 16 bytes"),
+        ("c.vcp", "9", "81", "c.vcp", &format!("refused 1: {SHORT_FILE}")),
+        ("g.vcp", "3", "80", "g.vcp", long_road),
+        ("g.vcp", "3", "81", "g.vcp", long_road),
+        ("g.vcp", "9", "80", "g.vcp", long_road),
+        ("h.vcp", "9", "81", "h.vcp", long_road),
         ("a.vcp", "7", "80", "a.vcp with 7 curves", no_curve),
         ("a.vcp", "7", "81", "a.vcp with 7 curves", no_curve),
         ("a.vcp", "4294967299", "80", "a.vcp with 7 curves", no_curve),
@@ -407,7 +421,7 @@ fn refused_changes() {
         }
     }
     assert_eq!(fs::read_to_string(folder.join("c.vcp")).unwrap(), "before");
-    assert_eq!(names(&folder), ["a.vcp", "b.vcp", "c.vcp", "e.vcp", "f.vcp"]);
+    assert_eq!(names(&folder), ["a.vcp", "b.vcp", "c.vcp", "e.vcp", "f.vcp", "g.vcp", "h.vcp"]);
 }
 
 #[test]

@@ -3,8 +3,9 @@
 mod common;
 
 use std::fs;
+use std::path::Path;
 
-use common::{expect, expect_error, expect_wrong, folder, root, run, run_with, share, Ended};
+use common::{expect, expect_error, expect_wrong, folder, root, run, run_with, share, Ended, LONG_LIST, SHORT_FILE};
 use sight_tests::random::Random;
 use sight_tests::reference::distances::required_distance;
 use sight_tests::reference::file::bytes;
@@ -116,9 +117,7 @@ fn second(speed: u32, purpose: u32, grade: i32, heights: &[i32], first: u32) -> 
         [needed, all - stations(bit + 3), stations(bit), stations(bit + 3)]
     };
     let sums = [sum(0, 0), sum(purpose, 1)];
-    let zone = |[one, other]: [u16; 2]| {
-        [first + u32::from(one), first + u32::from(other), u32::from(other) - u32::from(one) + 1]
-    };
+    let zone = |[one, other]: [u32; 2]| [first + one, first + other, other - one + 1];
     Said {
         stations: [first, first + all - 1],
         speed,
@@ -145,27 +144,67 @@ fn any_judged_road(random: &mut Random, round: u32) -> Road {
     road
 }
 
+/// Compares a road's report with the second calculation, and answers it and how many zones it has.
+fn compare(folder: &Path, road: &Road) -> (String, usize) {
+    let ended = run_with(folder, &["report", "-"], &bytes(road)).0;
+    assert_eq!((ended.errors.as_str(), ended.status), ("", 0), "{road:?}");
+    let said = read_back("-: ", &ended.output);
+    let expected = second(road.speed.into(), road.purpose.into(), marking_grade(road), &heights_of(road), 0);
+    assert_eq!(said, expected, "{road:?}");
+    // Columns line up: the lines of zones that have numbers end in the same column.
+    let ends: Vec<usize> = ended.output.lines().skip(6).filter(|line| line.ends_with(" m")).map(str::len).collect();
+    assert!(ends.windows(2).all(|pair| pair[0] == pair[1]), "{}", ended.output);
+    let zones = said.zones.iter().map(Vec::len).sum();
+    assert_eq!(ends.len(), zones, "{}", ended.output);
+    (ended.output, zones)
+}
+
 #[test]
 fn random_roads() {
     let folder = folder("report_random");
     let mut random = Random::new(85);
-    let (mut zones, mut lined, mut falling) = (0, 0, 0);
+    let (mut zones, mut falling) = (0, 0);
     for round in 0..600 {
         let road = any_judged_road(&mut random, round);
-        let ended = run_with(&folder, &["report", "-"], &bytes(&road)).0;
-        assert_eq!((ended.errors.as_str(), ended.status), ("", 0), "{road:?}");
-        let said = read_back("-: ", &ended.output);
-        zones += said.zones.iter().map(Vec::len).sum::<usize>();
-        let grade = marking_grade(&road);
-        falling += u32::from(grade < 0);
-        assert_eq!(said, second(road.speed.into(), road.purpose.into(), grade, &heights_of(&road), 0), "{road:?}");
-        // Columns line up: the lines of zones that have numbers end in the same column.
-        let ends: Vec<usize> = ended.output.lines().skip(6).filter(|line| line.ends_with(" m")).map(str::len).collect();
-        assert!(ends.windows(2).all(|pair| pair[0] == pair[1]), "{}", ended.output);
-        lined += ends.len();
+        zones += compare(&folder, &road).1;
+        falling += u32::from(marking_grade(&road) < 0);
     }
-    assert!(zones > 1_000 && lined > 1_000, "{zones} zones on {lined} lines");
+    assert!(zones > 1_000, "{zones} zones");
     assert!((400..590).contains(&falling), "{falling} of 600 roads fall");
+}
+
+/// Roads over 8,000 m, and their heights as a survey.
+#[test]
+fn long_roads() {
+    let folder = folder("report_long");
+    let mut random = Random::new(124);
+    let mut zones = 0;
+    for round in 0..12 {
+        let far = roads::steeper(roads::far_run_of_crests(&mut random, 300));
+        let road = if round % 3 == 0 { roads::any_long_road(&mut random) } else { far };
+        let road = Road { speed: random.one_of(&[20, 25, 30]), ..road };
+        let (report, many) = compare(&folder, &road);
+        zones += many;
+        let survey = run_with(&folder, &["heights", "-"], &bytes(&road)).0.output;
+        let [speed, purpose] = [road.speed, road.purpose].map(|number| number.to_string());
+        let grade = percent(marking_grade(&road));
+        let arguments = ["check", "-", "--speed", &speed, "--purpose", &purpose, "--grade", &grade];
+        let ended = run_with(&folder, &arguments, survey.as_bytes()).0;
+        assert_eq!(ended, Ended { output: report, errors: String::new(), status: 0 }, "{road:?}");
+    }
+    assert!(zones > 60, "{zones} zones");
+}
+
+/// A road of either version has the same report.
+#[test]
+fn both_versions() {
+    let folder = folder("report_versions");
+    let mut random = Random::new(125);
+    for round in 0..60 {
+        let road = any_judged_road(&mut random, round);
+        let [first, second] = [1, 2].map(|version| bytes(&roads::in_version(version, &road)));
+        assert_eq!(run_with(&folder, &["report", "-"], &first), run_with(&folder, &["report", "-"], &second));
+    }
 }
 
 /// Several files: a report each with a line between, and a refused one has its line.
@@ -175,7 +214,7 @@ fn several_files() {
     fs::copy(root().join("roads/three-crests.vcp"), folder.join("a.vcp")).unwrap();
     fs::write(folder.join("b.vcp"), &EXAMPLE[..15]).unwrap();
     let ended = run(&folder, &["report", "b.vcp", "a.vcp", "b.vcp", "a.vcp"]);
-    let errors = "b.vcp: refused 1: the file has fewer than 16 bytes\n".repeat(2);
+    let errors = format!("b.vcp: refused 1: {SHORT_FILE}\n").repeat(2);
     let report = report_of_the_readme("a.vcp");
     assert_eq!(ended, Ended { output: format!("{report}\n{report}"), errors, status: 1 });
 }
@@ -237,16 +276,16 @@ fn check_of_random_heights() {
     }
 }
 
-/// Hundreds of zones: a wall every forty metres.
+/// Thousands of zones: a wall every forty metres.
 #[test]
 fn check_of_many_zones() {
     let folder = folder("check_zones");
-    let heights: Vec<i32> = (0..8_001).map(|station| if station % 40 == 0 { 30_000 } else { 0 }).collect();
+    let heights: Vec<i32> = (0..100_001).map(|station| if station % 40 == 0 { 30_000 } else { 0 }).collect();
     let survey: String =
         (0..).zip(&heights).map(|(station, height)| format!("{station},{}\n", height / 10_000)).collect();
     let ended = run_with(&folder, &["check", "-", "--speed", "20", "--purpose", "1"], survey.as_bytes()).0;
     let said = read_back("-: ", &ended.output);
-    assert!(said.zones[0].len() > 190 && said.zones[2].len() > 190, "{} zones", said.zones[0].len());
+    assert!(said.zones[0].len() > 2_400 && said.zones[2].len() > 2_400, "{} zones", said.zones[0].len());
     assert_eq!(said, second(20, 1, 0, &heights, 0));
 }
 
@@ -313,8 +352,8 @@ fn faults_of_a_survey() {
         let error = format!("a.csv:{}: {reason}\n", place + 1);
         expect_error(&folder, &["check", "a.csv", "--speed", "20", "--purpose", "1"], 2, &error);
     }
-    fs::write(folder.join("a.csv"), "\n".repeat(100_000)).unwrap();
-    let error = "a.csv:80011: there are more than 80010 lines\n";
+    fs::write(folder.join("a.csv"), "\n".repeat(1_000_020)).unwrap();
+    let error = "a.csv:1000011: there are more than 1000010 lines\n";
     expect_error(&folder, &["check", "a.csv", "--speed", "20", "--purpose", "1"], 2, error);
     let first_after = "7,0\n6,0\n";
     fs::write(folder.join("a.csv"), first_after).unwrap();
@@ -330,7 +369,7 @@ fn faults_of_a_survey() {
 fn refused_surveys() {
     let folder = folder("check_refused");
     let survey = |many: u32| (0..many).map(|station| format!("{station},0\n")).collect::<String>();
-    let list = "a.csv: refused 19: the list of heights or marks is empty or longer than 8,001\n";
+    let list = &format!("a.csv: refused 19: {LONG_LIST}\n");
     let purpose = "a.csv: refused 7: the purpose is not 0 to 5, or that of a road is not 1 to 5\n";
     let grade = "a.csv: refused 10: a grade is not -1,500 to 1,500 hundredths of a percent (-15 to 15 %)\n";
     for (many, speed, word, percent, line) in [
@@ -341,14 +380,14 @@ fn refused_surveys() {
         (0, "20", "5", "15.01", grade),
         (3, "20", "5", "99999999999999999999", grade),
         (0, "20", "1", "-15.00", list),
-        (8_002, "20", "1", "15", list),
-        (9_000, "20", "1", "0", list),
+        (100_002, "20", "1", "15", list),
+        (110_000, "20", "1", "0", list),
     ] {
         fs::write(folder.join("a.csv"), survey(many)).unwrap();
         let arguments = ["check", "a.csv", "--speed", speed, "--purpose", word, "--grade", percent];
         expect_error(&folder, &arguments, 1, line);
     }
-    fs::write(folder.join("a.csv"), survey(8_001)).unwrap();
+    fs::write(folder.join("a.csv"), survey(100_001)).unwrap();
     assert_eq!(run(&folder, &["check", "a.csv", "--speed", "20", "--purpose", "1"]).status, 0);
     expect_wrong(&folder, &["check", "a.csv", "--speed", "20"], "--purpose is missing");
     expect_wrong(&folder, &["check", "a.csv", "--purpose", "1"], "--speed is missing");
@@ -365,7 +404,8 @@ fn grades_of_roads() {
     let folder = folder("report_grades");
     for (first, last, grade) in [(0, 0, "0.00"), (300, 1, "0.00"), (-5, 0, "-0.05"), (1_500, -1_234, "-12.34")] {
         let curves = vec![Curve { pvi: 100, length: 2, grade_out: last }];
-        let road = Road { speed: 20, purpose: 1, length: 300, start_height: 0, first_grade: first, curves };
+        let version = 1;
+        let road = Road { version, speed: 20, purpose: 1, length: 300, start_height: 0, first_grade: first, curves };
         let ended = run_with(&folder, &["report", "-"], &bytes(&road)).0;
         let title = format!("-: 20 km/h, decision A, marked with grade {grade} %, from station 0 to 300 (rising)\n");
         assert!(ended.output.starts_with(&title), "{ended:?}");

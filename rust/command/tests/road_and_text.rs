@@ -7,7 +7,7 @@ use std::io::Read;
 use std::os::unix::fs::{symlink, PermissionsExt};
 use std::process::Command;
 
-use common::{command, expect, expect_error, folder, names, root, run, run_with};
+use common::{command, expect, expect_error, folder, names, root, run, run_with, LONG_ROAD, NO_VERSION, SHORT_FILE};
 use sight_tests::random::Random;
 use sight_tests::reference::file::bytes;
 use sight_tests::roads::{self, SHARP_BREAK, SHARP_BREAK_REASON};
@@ -34,12 +34,56 @@ fn a_text_becomes_a_road_file_and_a_text_again() {
 fn random_roads_there_and_back() {
     let folder = folder("roads_there_and_back");
     let mut random = Random::new(90);
-    for _ in 0..200 {
-        let file = bytes(&roads::any_road(&mut random));
+    for round in 0..200 {
+        let any = if round % 4 == 0 { roads::any_long_road } else { roads::any_road };
+        let file = bytes(&any(&mut random));
         let text = run_with(&folder, &["text", "-"], &file).0;
         assert_eq!((text.errors.as_str(), text.status), ("", 0));
         assert_eq!(run_with(&folder, &["road", "-"], text.output.as_bytes()).1, file, "{}", text.output);
     }
+}
+
+/// The version decides which file a text becomes, and is said of version 2 alone.
+#[test]
+fn versions() {
+    let folder = folder("versions");
+    let second_file = b"VCP\x02\0\x50\x01\xE8\x03\0\0\x40\x42\x0F\0\0\0\0";
+    for (text, file) in [
+        (format!("version 1\n{GOOD}"), GOOD_FILE),
+        (format!("{GOOD}version 1"), GOOD_FILE),
+        (format!("version 2\n{GOOD}"), second_file),
+        (format!("{GOOD}version 2"), second_file),
+    ] {
+        assert_eq!(run_with(&folder, &["road", "-"], text.as_bytes()).1, file, "{text}");
+    }
+    assert_eq!(run_with(&folder, &["text", "-"], GOOD_FILE).0.output, GOOD);
+    assert_eq!(run_with(&folder, &["text", "-"], second_file).0.output, format!("version 2\n{GOOD}"));
+    let of = |version: &str, length: u32| format!("{}{version}\n", GOOD.replace("1000", &length.to_string()));
+    let long_road = format!("3: refused 8: {LONG_ROAD}");
+    let no_room = |length: u32| {
+        let room = "does not fit a road file of version 1, which has room for 0 to 65535";
+        format!("3: length: \"{length}\" {room}; with the line 'version 2' it fits")
+    };
+    for (text, status, line) in [
+        (of("", 8_001), 1, &long_road),
+        (of("version 1", 8_001), 1, &long_road),
+        (of("version 2", 100_001), 1, &long_road),
+        (of("", 65_536), 2, &no_room(65_536)),
+        (of("version 1", 70_000), 2, &no_room(70_000)),
+        (of("version 3", 70_000), 1, &format!("6: refused 3: {NO_VERSION}")),
+        (of("version 0", 70_000), 1, &format!("6: refused 3: {NO_VERSION}")),
+        (of("version two", 70_000), 2, &"6: version: \"two\" is no number".to_string()),
+    ] {
+        fs::write(folder.join("a.txt"), text).unwrap();
+        expect_error(&folder, &["road", "a.txt", "-o", "a.vcp"], status, &format!("a.txt:{line}\n"));
+    }
+    for length in [8_001, 65_536, 100_000] {
+        let text = of("version 2", length);
+        let file = run_with(&folder, &["road", "-"], text.as_bytes()).1;
+        let again = run_with(&folder, &["text", "-"], &file).0.output;
+        assert_eq!(again, format!("version 2\n{}", of("", length).trim_end()) + "\n");
+    }
+    assert_eq!(names(&folder), ["a.txt"]);
 }
 
 /// What stood there before gives way, hands on its permissions, and stays where a link leads to it.
@@ -86,7 +130,7 @@ fn many_bad_lines() {
     let ended = run(&folder, &["road", "a.txt"]);
     let lines: Vec<&str> = ended.errors.lines().collect();
     assert_eq!((ended.status, lines.len()), (2, 21));
-    let first = format!("a.txt:1: unknown words in \"{}\"...: a line begins with speed,", "y".repeat(60));
+    let first = format!("a.txt:1: unknown words in \"{}\"...: a line begins with version,", "y".repeat(60));
     assert!(lines[0].starts_with(&first), "{}", lines[0]);
     // 80 lines more, and five that are missing.
     assert_eq!(lines[20], "a.txt: 85 more faults");
@@ -143,7 +187,7 @@ fn bytes_that_are_no_text() {
     fs::write(folder.join("a.txt"), [b"# Stra\xDFe\n", GOOD.as_bytes()].concat()).unwrap();
     assert_eq!(run_with(&folder, &["road", "a.txt"], b"").1, GOOD_FILE);
     fs::write(folder.join("a.txt"), [GOOD.as_bytes(), b"curve\xDF"].concat()).unwrap();
-    let known = "a line begins with speed, purpose, length, start height, first grade or curve";
+    let known = "a line begins with version, speed, purpose, length, start height, first grade or curve";
     let line = format!("a.txt:6: unknown words in \"curve\u{fffd}\": {known}\n");
     expect_error(&folder, &["road", "a.txt"], 2, &line);
 }
@@ -152,7 +196,7 @@ fn bytes_that_are_no_text() {
 fn refused_road_files_have_no_text() {
     let folder = folder("refused");
     fs::write(folder.join("a.vcp"), &GOOD_FILE[..15]).unwrap();
-    expect_error(&folder, &["text", "a.vcp"], 1, "a.vcp: refused 1: the file has fewer than 16 bytes\n");
+    expect_error(&folder, &["text", "a.vcp"], 1, &format!("a.vcp: refused 1: {SHORT_FILE}\n"));
     fs::write(folder.join("a.vcp"), GOOD).unwrap();
     let line = "a.vcp: refused 2: the file does not begin with the letters VCP\n";
     expect_error(&folder, &["text", "a.vcp", "-o", "a.txt"], 1, line);

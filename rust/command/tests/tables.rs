@@ -105,12 +105,43 @@ fn sights_of_random_roads() {
     }
 }
 
-/// As far as can be asked for, where nothing is said: on a level road the first station sees its end.
+/// Roads over 8,000 m: all heights, and the sights of any stretch.
+#[test]
+fn long_roads() {
+    let folder = folder("tables_long");
+    let mut random = Random::new(123);
+    for _ in 0..12 {
+        let road = roads::any_long_road(&mut random);
+        let (file, heights) = (bytes(&road), heights(&road));
+        let last = heights.len() - 1;
+        let ended = run_with(&folder, &["heights", "-"], &file).0;
+        let expected = table("station_m,height_m", 0, last, 1, |station| metres(heights[station]));
+        assert!(ended.output == expected, "{road:?}");
+        assert_eq!((ended.errors.as_str(), ended.status), ("", 0));
+        let (from, to, _) = any_stretch(&mut random, last);
+        let [from_word, to_word] = [from, to].map(|number| number.to_string());
+        let arguments = ["sight", "-", "--farthest", "60", "--from", &from_word, "--to", &to_word];
+        let ended = run_with(&folder, &arguments, &file).0;
+        let (whole, look) = (whole_heights(&heights), Look { eye: 10_800, object: 6_000, farthest: 60 });
+        let sights = |station: usize| available_sight(&whole, look, station).to_string();
+        assert!(ended.output == table("station_m,sight_m", from, to, 1, sights), "{road:?}");
+        assert_eq!((ended.errors.as_str(), ended.status), ("", 0));
+    }
+}
+
+/// As far as can be asked for, where nothing is said: a station of a level road sees so far, or to the road's end.
 #[test]
 fn farthest_of_all() {
-    let road = Road { speed: 20, purpose: 1, length: 8_000, start_height: 0, first_grade: 0, curves: vec![] };
-    let ended = run_with(&folder("sights_farthest"), &["sight", "-", "--to", "0"], &bytes(&road)).0;
-    assert_eq!(ended.output, "station_m,sight_m\n0,8000\n");
+    let folder = folder("sights_farthest");
+    for (version, length, from, to, rows) in [
+        (1, 8_000, "0", "1", "0,8000\n1,7999\n"),
+        (2, 8_000, "0", "1", "0,8000\n1,7999\n"),
+        (2, 12_000, "3999", "4001", "3999,8000\n4000,8000\n4001,7999\n"),
+    ] {
+        let road = Road { version, speed: 20, purpose: 1, length, start_height: 0, first_grade: 0, curves: vec![] };
+        let ended = run_with(&folder, &["sight", "-", "--from", from, "--to", to], &bytes(&road)).0;
+        assert_eq!(ended.output, format!("station_m,sight_m\n{rows}"), "{version}, {length}");
+    }
 }
 
 /// Into a file, whole; and what stood there before gives way.

@@ -7,6 +7,15 @@ use std::io::Write;
 use std::path::{Path, PathBuf};
 use std::process::{Command, Stdio};
 
+// Why a file, a road or a list is refused, in the command's words.
+pub const SHORT_FILE: &str = "the file has fewer than 16 bytes, or fewer than 18 in version 2";
+pub const NO_VERSION: &str = "the version is neither 1 nor 2";
+pub const WRONG_TOTAL: &str = "the file's total length is not 16 bytes and 6 for each curve, or 18 and 8 in version 2";
+pub const LONG_ROAD: &str =
+    "the road's length is not 1 to 8,000 m, or to 100,000 m in version 2; the listing, the preview and \
+                             the van take no road over 8,000 m";
+pub const LONG_LIST: &str = "the list of heights or marks is empty or longer than 100,001";
+
 /// How the command ended.
 #[derive(Debug, PartialEq)]
 pub struct Ended {
