@@ -5,10 +5,9 @@ use std::array;
 use picture::{preview, svg, Curve, Passing, Preview, Profile};
 
 use crate::random::Random;
-use crate::reference::distances::required_distance;
 use crate::reference::marks::{marks, runs};
 use crate::reference::passing::passing_marks;
-use crate::reference::road::{heights, marking_grade, verdict, Road};
+use crate::reference::road::{heights, marking_grade, required_distances, verdict, Road};
 
 /// The grade that an accepted road is marked with, the distances for stopping and for the decision, the curves, the heights,
 /// the marks and the zones.
@@ -18,7 +17,7 @@ pub struct Drawn {
     pub curves: Vec<Curve>,
     pub heights: Vec<i32>,
     pub marks: Vec<u8>,
-    pub zones: [Vec<[u16; 2]>; 5],
+    pub zones: [Vec<[u32; 2]>; 5],
 }
 
 impl Drawn {
@@ -33,10 +32,9 @@ impl Drawn {
             length: curve.length.into(),
             grade_out: curve.grade_out.into(),
         });
-        let required = |purpose: u32| required_distance(speed, purpose, grade).expect("the road is accepted");
         Drawn {
             grade,
-            distances: [0, purpose].map(required),
+            distances: required_distances(road),
             curves: curves.collect(),
             heights: list,
             zones: array::from_fn(|bit| runs(&marked, bit as u32)),
@@ -72,7 +70,7 @@ impl Drawn {
     }
 
     /// The zones where passing sight of so many metres is lacking, and those where passing is not judged.
-    pub fn passing_zones(&self, distance: u32) -> [Vec<[u16; 2]>; 2] {
+    pub fn passing_zones(&self, distance: u32) -> [Vec<[u32; 2]>; 2] {
         let mut marked = vec![0; self.heights.len()];
         passing_marks(&self.heights, distance, &mut marked).expect("the heights are marked");
         [5, 6].map(|bit| runs(&marked, bit))

@@ -6,7 +6,7 @@ use crate::reference::road::Road;
 
 /// The heights of an accepted road file.
 pub fn of_file(file: &[u8]) -> Vec<i32> {
-    let mut heights = vec![0; exports::ROAD_STATIONS];
+    let mut heights = vec![0; exports::LONG_STATIONS];
     let stations = exports::file_heights(file, &mut heights).expect("the road is accepted");
     heights.truncate(stations as usize);
     heights

@@ -1,12 +1,19 @@
 //! The lister, which `rt ci` proved and built.
 
 use std::io::Write;
-use std::path::Path;
+use std::path::PathBuf;
 use std::process::{Command, Stdio};
+
+use crate::pages::root;
+
+/// Where it stands.
+pub fn program() -> PathBuf {
+    root().join("target/bin/lister")
+}
 
 /// What it writes to standard output for a file on its standard input.
 pub fn output(file: &[u8]) -> String {
-    let program = Path::new(env!("CARGO_MANIFEST_DIR")).join("../target/bin/lister");
+    let program = program();
     let mut running = Command::new(&program)
         .stdin(Stdio::piped())
         .stdout(Stdio::piped())

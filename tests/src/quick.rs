@@ -1,8 +1,8 @@
-//! What `make bench` measures the proved functions against: the same quick calculations as one writes them in safe Rust,
-//! and the literal rule of sight.
+//! What `make bench` measures the proved functions against, and what the marks of long roads are compared with: the same quick
+//! calculations as one writes them in safe Rust, and the literal rule of sight.
 
 use crate::reference::crest::Crest;
-use crate::reference::file::read;
+use crate::reference::file::{read, read_short};
 use crate::reference::marks::{EYE, OBJECT};
 use crate::reference::road::{marking_grade, Road};
 use crate::reference::sight::{available_sight, whole_heights, Look};
@@ -79,9 +79,12 @@ fn sight(heights: &[i32], i: usize, farthest: usize) -> usize {
 }
 
 /// Writes the mark of each station, with one look at its sight: up to the larger distance, and none where neither distance
-/// is judged.
+/// is judged. Refused 14 if the list has no place for each station.
 fn write_marks(road: &Road, list: &mut [u8], sight: impl Fn(usize, usize) -> usize) -> Answer {
     let stations = road.length as usize + 1;
+    if list.len() < stations {
+        return Err(14);
+    }
     let grade = marking_grade(road);
     let stopping = metres_for(road.speed, 0, grade);
     let decision = metres_for(road.speed, road.purpose, grade);
@@ -102,24 +105,25 @@ fn write_marks(road: &Road, list: &mut [u8], sight: impl Fn(usize, usize) -> usi
     Ok(stations as u32)
 }
 
-/// Reads a road file whose marks have room in so many places.
-fn road_to_mark(file: &[u8], places: usize) -> Result<Road, u32> {
-    let road = read(file)?;
-    if places <= road.length as usize {
-        return Err(14);
-    }
-    Ok(road)
+/// Marks an accepted road.
+fn mark_road(road: &Road, list: &mut [u8]) -> Answer {
+    let heights = heights(road);
+    write_marks(road, list, |i, farthest| sight(&heights, i, farthest))
 }
 
+/// Reads a road file and marks its road, as the van does.
 pub fn mark_road_file(file: &[u8], list: &mut [u8]) -> Answer {
-    let road = road_to_mark(file, list.len())?;
-    let heights = heights(&road);
-    write_marks(&road, list, |i, farthest| sight(&heights, i, farthest))
+    mark_road(&read_short(file)?, list)
 }
 
-/// The same marks by the literal rule: every station between, for every object station up to the first hidden one.
+/// The same as the library does, over roads of any length.
+pub fn mark_file(file: &[u8], list: &mut [u8]) -> Answer {
+    mark_road(&read(file)?, list)
+}
+
+/// The van's marks by the literal rule: every station between, for every object station up to the first hidden one.
 pub fn mark_road_file_literally(file: &[u8], list: &mut [u8]) -> Answer {
-    let road = road_to_mark(file, list.len())?;
+    let road = read_short(file)?;
     let heights = whole_heights(&heights(&road));
     let look = |farthest: usize| Look { eye: EYE, object: OBJECT, farthest: farthest as u32 };
     write_marks(&road, list, |i, farthest| available_sight(&heights, look(farthest), i))

@@ -1,18 +1,24 @@
-//! docs/RULES.md, "Distances a driver needs": the grade that a road is marked with.
+//! docs/RULES.md, "Distances a driver needs": the grade that a road is marked with, and the distances that it requires; and how
+//! many stations it has for an operation that takes short roads alone.
 
+use sight_tests::bare;
 use sight_tests::heights;
 use sight_tests::random::Random;
 use sight_tests::reference::distances::required_distance;
-use sight_tests::reference::file::{bytes, file_grade};
+use sight_tests::reference::file::{bytes, file_distance, file_grade, short_stations};
 use sight_tests::reference::marks::runs;
 use sight_tests::reference::road::{Curve, Road};
-use sight_tests::roads::{self, EXAMPLE, REFUSALS};
+use sight_tests::roads::{self, EXAMPLE, EXAMPLE_VERSION_2, LONG_EXAMPLE, REFUSALS, VERSIONS};
 use sight_tests::tally::Tally;
 
-/// The program's answer for a file, which is that of the second calculation.
+/// The program's answers for a file are those of the second calculation. Answers the grade.
 fn compare(file: &[u8]) -> Result<i32, u32> {
     let answer = exports::file_grade(file).map_err(|refusal| refusal.number());
     assert_eq!(answer, file_grade(file), "{file:02X?}");
+    for purpose in 0..=6 {
+        assert_eq!(bare(exports::file_distance(file, purpose)), file_distance(file, purpose), "{purpose}: {file:02X?}");
+    }
+    assert_eq!(bare(exports::short_stations(file)), short_stations(file), "{file:02X?}");
     answer
 }
 
@@ -20,12 +26,41 @@ fn compare(file: &[u8]) -> Result<i32, u32> {
 fn road(first_grade: i16, grades: &[i16]) -> Road {
     let length = 10 * grades.len().max(1) as u32;
     let curves = (1..).zip(grades).map(|(place, &grade_out)| Curve { pvi: 10 * place - 1, length: 2, grade_out });
-    Road { speed: 90, purpose: 1, length, start_height: 0, first_grade, curves: curves.collect() }
+    Road { version: 1, speed: 90, purpose: 1, length, start_height: 0, first_grade, curves: curves.collect() }
 }
 
+/// The examples need 50 m to stop and 60 m to decide, as their listing says of the first two; the third is too long for one.
 #[test]
-fn grade_of_the_example() {
-    assert_eq!(compare(&EXAMPLE), Ok(-600));
+fn examples() {
+    for (file, stations) in [(&EXAMPLE[..], Ok(301)), (&EXAMPLE_VERSION_2, Ok(301)), (&LONG_EXAMPLE, Err(8))] {
+        assert_eq!(compare(file), Ok(-600));
+        assert_eq!([0, 1].map(|purpose| exports::file_distance(file, purpose)), [Ok(50), Ok(60)]);
+        assert_eq!([6, u32::MAX].map(|purpose| bare(exports::file_distance(file, purpose))), [Err(7); 2]);
+        assert_eq!(bare(exports::short_stations(file)), stations);
+    }
+}
+
+/// A road over 8,000 m has its grade and its distances, and is refused 8 where short roads alone are taken, in the place where 8 is
+/// tested.
+#[test]
+fn long_roads() {
+    for roads::LongFile { file, short, read } in roads::long_files(&mut Random::new(50)) {
+        assert_eq!(compare(&file).err(), read, "{file:02X?}");
+        assert_eq!(bare(exports::file_distance(&file, 0)).err(), read, "{file:02X?}");
+        assert_eq!(bare(exports::short_stations(&file)), Err(short), "{file:02X?}");
+    }
+}
+
+/// Up to 8,000 m the stations are counted, in either version.
+#[test]
+fn stations_at_each_edge() {
+    for version in VERSIONS {
+        for length in [1, 2, 255, 256, 7_999, 8_000] {
+            let file = bytes(&Road { version, length, ..road(0, &[]) });
+            assert_eq!(exports::short_stations(&file), Ok(length + 1), "version {version}");
+            compare(&file).expect("the road is accepted");
+        }
+    }
 }
 
 /// The least grade counts wherever it stands: as the first grade and as the grade out of each of the curves.
@@ -72,7 +107,11 @@ fn random_roads() {
     let (mut level, mut first, mut last, mut between) = (0, 0, 0, 0);
     for round in 0..20_000 {
         let room = random.within(2..=100);
-        let road = if round % 4 < 3 { roads::run_of_crests(&mut random, room) } else { roads::any_road(&mut random) };
+        let road = match round % 4 {
+            0 => roads::any_road(&mut random),
+            1 => roads::far_run_of_crests(&mut random, room),
+            _ => roads::run_of_crests(&mut random, room),
+        };
         let road = roads::gentler(road, random.one_of(&[1, 1, 10, 1_000]));
         let grade = compare(&bytes(&road)).expect("the road is accepted");
         let grades: Vec<i32> = road.curves.iter().map(|curve| curve.grade_out.into()).collect();
@@ -93,16 +132,8 @@ fn refused_files() {
     let mut tally = Tally::default();
     for _ in 0..20_000 {
         let file = match random.within(0..=3) {
-            0 => {
-                let refusal = random.one_of(&REFUSALS);
-                roads::faulty_file(&mut random, &[refusal])
-            }
-            1 => {
-                let refusals: Vec<u32> = (0..random.within(2..=5)).map(|_| random.one_of(&REFUSALS)).collect();
-                roads::faulty_file(&mut random, &refusals)
-            }
-            2 => roads::careless_file(&mut random),
-            _ => roads::noise(&mut random),
+            0 => roads::careless_file(&mut random),
+            _ => roads::doubtful_file(&mut random),
         };
         tally.count(compare(&file).map(i32::unsigned_abs));
     }
@@ -123,7 +154,7 @@ fn distances(road: &Road) -> [[u32; 2]; 2] {
     let mut marks = vec![0; road.length as usize + 1];
     vcp::mark_road_file(&file, &mut marks).expect("the marks have room");
     let not_judged = [3, 4].map(|bit| match runs(&marks, bit)[..] {
-        [[first, last]] => u32::from(last - first) + 1,
+        [[first, last]] => last - first + 1,
         _ => panic!("the last stations are not judged: {road:?}"),
     });
     [[listed[0], listed[1]], not_judged]

@@ -3,7 +3,7 @@
 use sight_tests::bare;
 use sight_tests::lent;
 use sight_tests::random::Random;
-use sight_tests::reference::file::{bytes, read};
+use sight_tests::reference::file::{bytes, read_short};
 use sight_tests::reference::listing::listing;
 use sight_tests::roads::{self, REFUSALS};
 
@@ -17,6 +17,16 @@ fn compare(random: &mut Random, file: &[u8], text: &str, places: usize) {
     };
     let proved = |buffer: &mut [u8]| bare(exports::list_road_file(file, buffer));
     let _ = lent::compare(&random.list(places, |bits| bits as u8), proved, second, format_args!("{file:02X?}"));
+}
+
+/// Compares in buffers that are just long enough, longer, a byte too short and empty. Answers the text.
+fn compare_all(random: &mut Random, file: &[u8]) -> String {
+    let text = listing(file);
+    let more = random.within(1..=40) as usize;
+    for places in [text.len(), text.len() + more, text.len() - 1, 0] {
+        compare(random, file, &text, places);
+    }
+    text
 }
 
 #[test]
@@ -37,12 +47,17 @@ fn random_files() {
                 bytes(&road)
             }
         };
-        accepted += u32::from(read(&file).is_ok());
-        let text = listing(&file);
-        let more = random.within(1..=40) as usize;
-        for places in [text.len(), text.len() + more, text.len() - 1, 0] {
-            compare(&mut random, &file, &text, places);
-        }
+        accepted += u32::from(read_short(&file).is_ok());
+        compare_all(&mut random, &file);
     }
     assert!((300..400).contains(&accepted), "{accepted} of 500 accepted");
+}
+
+/// Roads over 8,000 m, good ones and with faults.
+#[test]
+fn roads_that_are_too_long() {
+    let mut random = Random::new(48);
+    for roads::LongFile { file, short, .. } in roads::long_files(&mut random) {
+        assert_eq!(compare_all(&mut random, &file), format!("refused {short}\n"), "{file:02X?}");
+    }
 }

@@ -68,8 +68,8 @@ fn expect_bits(marks: &[u8], heights: &[i32], stopping: usize, decision: usize) 
 fn bits_of_a_ridge() {
     let mut random = Random::new(22);
     let heights: Vec<i32> = (0..=300).map(|station: i32| 1_500 * (100 - (station - 100).abs())).collect();
-    let level: [&[[u16; 2]]; 5] = [&[[83, 95]], &[[78, 96]], &[[78, 82], [96, 96]], &[[281, 300]], &[[276, 300]]];
-    let downhill: [&[[u16; 2]]; 5] = [&[[78, 96]], &[[78, 96]], &[], &[[276, 300]], &[[276, 300]]];
+    let level: [&[[u32; 2]]; 5] = [&[[83, 95]], &[[78, 96]], &[[78, 82], [96, 96]], &[[281, 300]], &[[276, 300]]];
+    let downhill: [&[[u32; 2]]; 5] = [&[[78, 96]], &[[78, 96]], &[], &[[276, 300]], &[[276, 300]]];
     for (grade, stopping, zones) in [(0, 20, level), (-1_500, 25, downhill)] {
         let marks = compare_all(&mut random, Drive { grade, ..SLOW }, &heights);
         expect_bits(&marks, &heights, stopping, 25);
@@ -83,6 +83,7 @@ fn bits_of_a_ridge() {
 #[test]
 fn bits_where_stopping_needs_more_than_the_decision() {
     let road = Road {
+        version: 1,
         speed: 130,
         purpose: 3,
         length: 950,
@@ -128,17 +129,24 @@ fn random_heights() {
     assert_eq!(bits.0[5..], [0; 3]);
 }
 
+/// Lists that are longer than a road of version 1 has stations, up to the longest: behind 65,535 too there are steps and humps.
 #[test]
-fn longest_list() {
+fn long_lists() {
     let mut random = Random::new(38);
-    let heights = heights::uneven(&mut random, 8_001);
-    compare_all(&mut random, SLOW, &heights);
+    for stations in [8_001, 8_002, 65_536, 65_537, exports::GREATEST_LIST] {
+        let heights = heights::uneven(&mut random, stations);
+        let (answer, marks) = compare(&mut random, SLOW, &heights, stations);
+        assert_eq!(answer, Ok(stations as u32));
+        let judged = &marks[stations - 500..stations - 25];
+        assert!(judged.contains(&0) && judged.iter().any(|mark| mark & STOPPING_LACKING != 0), "{stations} stations");
+        assert!(marks[stations - 20..].iter().all(|&mark| mark == STOPPING_NOT_JUDGED | DECISION_NOT_JUDGED));
+    }
 }
 
 #[test]
 fn refusals_at_each_edge() {
     let mut random = Random::new(39);
-    let flat = [0; 8_002];
+    let flat = vec![0; 100_002];
     for (speed, purpose) in [(20, 1), (20, 5), (130, 1), (130, 5)] {
         for grade in [-1_500, -1, 0, 1, 1_500] {
             let drive = Drive { speed, purpose, grade };
@@ -157,8 +165,9 @@ fn refusals_at_each_edge() {
             assert_eq!(compare(&mut random, drive, &flat[..30], 30).0, Err(10), "{drive:?}");
         }
     }
-    for (stations, answer) in [(0, Err(19)), (1, Ok(1)), (8_001, Ok(8_001)), (8_002, Err(19))] {
-        assert_eq!(compare(&mut random, SLOW, &flat[..stations], 8_002).0, answer, "{stations} stations");
+    let accepted = [1, 8_001, 8_002, 65_536, 100_001].map(|stations| (stations, Ok(stations as u32)));
+    for (stations, answer) in accepted.into_iter().chain([(0, Err(19)), (100_002, Err(19))]) {
+        assert_eq!(compare(&mut random, SLOW, &flat[..stations], 100_002).0, answer, "{stations} stations");
     }
     for (places, answer) in [(0, Err(14)), (29, Err(14)), (30, Ok(30)), (31, Ok(30))] {
         assert_eq!(compare(&mut random, SLOW, &flat[..30], places).0, answer, "{places} places");
@@ -177,7 +186,7 @@ fn refusals_in_order() {
             purpose: if has(1) { random.one_of(&[0, 6]) } else { 1 },
             grade: if has(2) { random.one_of(&[-1_501, 1_501]) } else { -1_500 },
         };
-        let heights = vec![0; if has(3) { 8_002 } else { 20 }];
+        let heights = vec![0; if has(3) { 100_002 } else { 20 }];
         let places = heights.len() - usize::from(has(4));
         let first = (0..).zip([6, 7, 10, 19, 14]).find(|&(fault, _)| has(fault));
         let expected = first.map_or(Ok(20), |(_, refusal)| Err(refusal));

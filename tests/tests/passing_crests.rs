@@ -88,7 +88,7 @@ fn lacks(sight: u32, rate: u32) -> bool {
             let marks = program_marks(&heights::of_road(&road), sight);
             let zones = runs(&marks, exports::PASSING_LACKING_BIT);
             lack.push(!zones.is_empty());
-            if let Some([first, last]) = zones.first().map(|zone| zone.map(u32::from)) {
+            if let Some(&[first, last]) = zones.first() {
                 assert!(first <= begin && end - sight <= last && zones.len() == 1, "{zones:?}, {road:?}");
             }
         }

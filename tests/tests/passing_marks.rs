@@ -6,10 +6,10 @@ use sight_tests::lent;
 use sight_tests::random::Random;
 use sight_tests::reference::marks::{runs, EYE};
 use sight_tests::reference::passing::{passing_marks, OBJECT};
-use sight_tests::reference::road::exact_heights;
+use sight_tests::reference::road::{exact_heights, Road};
 use sight_tests::reference::sight::{available_sight, seen, whole_heights, Look};
 use sight_tests::reference::Answer;
-use sight_tests::roads;
+use sight_tests::roads::{self, in_version, VERSIONS};
 use sight_tests::tally::Tally;
 
 const LACKING: u8 = 1 << exports::PASSING_LACKING_BIT;
@@ -37,7 +37,7 @@ fn compare_all(random: &mut Random, heights: &[i32], distance: u32) -> Vec<u8> {
 }
 
 /// The zones of a bit of the marks, as the program writes them.
-fn zones(marks: &[u8], bit: u32) -> Vec<[u16; 2]> {
+fn zones(marks: &[u8], bit: u32) -> Vec<[u32; 2]> {
     let mut ends = vec![0; exports::MOST_ENDS];
     let many = exports::zones(marks, bit, &mut ends).expect("the bit is accepted and the list has room") as usize;
     ends[..2 * many].chunks_exact(2).map(|zone| [zone[0], zone[1]]).collect()
@@ -50,8 +50,8 @@ fn expect_zones(marks: &[u8], distance: u32) {
         assert_eq!(zones(marks, bit), runs(marks, bit), "bit {bit}, {marks:?}");
         assert!(bit >= 5 || runs(marks, bit).is_empty(), "bit {bit}, {marks:?}");
     }
-    let last = marks.len() as u16 - 1;
-    let first = marks.len().saturating_sub(distance as usize) as u16;
+    let last = marks.len() as u32 - 1;
+    let first = (last + 1).saturating_sub(distance);
     assert_eq!(zones(marks, 6), [[first, last]], "distance {distance}");
 }
 
@@ -111,6 +111,17 @@ fn two_humps() {
     expect_zones(&marks, 3);
 }
 
+/// The same behind station 65,535 of a level road of 100,000 m, and up to its end.
+#[test]
+fn humps_far_out() {
+    let mut heights = vec![0; 100_001];
+    (heights[65_541], heights[99_990]) = (20_000, 20_000);
+    let marks = compare_all(&mut Random::new(67), &heights, 3);
+    assert_eq!(zones(&marks, 5), [[65_539, 65_540], [99_988, 99_989]]);
+    assert_eq!(zones(&marks, 6), [[99_998, 100_000]]);
+    expect_zones(&marks, 3);
+}
+
 /// From how many stations that lack sight the far end of the distance is seen all the same, behind a hidden station.
 fn far_end_shown_again(heights: &[i32], marks: &[u8], distance: u32) -> usize {
     let (whole, look) = (whole_heights(heights), Look { eye: EYE, object: OBJECT, farthest: distance });
@@ -135,6 +146,22 @@ fn random_runs_of_short_crests() {
     }
     assert!(met.lacking > 10_000 && met.there > 100_000 && met.not_judged > 100_000, "{met:?}");
     assert!(shown_again > 1_000, "{shown_again} where the far end shows again");
+}
+
+/// The same far out, over and behind stations that two bytes do not hold.
+#[test]
+fn random_runs_of_short_crests_far_out() {
+    let mut random = Random::new(65);
+    let mut far = Met::default();
+    for _ in 0..8 {
+        let road = roads::steeper(roads::far_run_of_crests(&mut random, 150));
+        let (heights, distance) = (heights::of_road(&road), random.within(30..=45));
+        let (answer, marks) = compare(&mut random, &heights, distance, heights.len());
+        assert_eq!(answer, Ok(road.length + 1));
+        expect_zones(&marks, distance);
+        far.count(&marks[8_000..]);
+    }
+    assert!(far.lacking > 20 && far.there > 10_000 && far.not_judged > 200, "{far:?}");
 }
 
 #[test]
@@ -226,7 +253,7 @@ fn the_shortest_distance_and_the_shortest_list() {
 #[test]
 fn longest_list() {
     let mut random = Random::new(59);
-    let road = heights::of_road(&roads::longest(&mut random));
+    let road = heights::of_road(&roads::longest_of_all(&mut random));
     assert_eq!(road.len(), exports::GREATEST_LIST);
     let uneven = heights::uneven(&mut random, exports::GREATEST_LIST);
     let mut met = Met::default();
@@ -260,9 +287,10 @@ fn greatest_distance() {
 #[test]
 fn refusals_at_each_edge() {
     let mut random = Random::new(61);
-    let flat = [0; 8_002];
-    for (stations, answer) in [(0, Err(19)), (1, Ok(1)), (8_001, Ok(8_001)), (8_002, Err(19))] {
-        assert_eq!(compare(&mut random, &flat[..stations], 10, 8_002).0, answer, "{stations} stations");
+    let flat = vec![0; 100_002];
+    let accepted = [1, 8_001, 8_002, 65_537, 100_001].map(|stations| (stations, Ok(stations as u32)));
+    for (stations, answer) in accepted.into_iter().chain([(0, Err(19)), (100_002, Err(19))]) {
+        assert_eq!(compare(&mut random, &flat[..stations], 10, 100_002).0, answer, "{stations} stations");
     }
     for distance in [1, 2, 29, 30, 31, 7_999, 8_000] {
         assert_eq!(compare(&mut random, &flat[..30], distance, 30).0, Ok(30), "distance {distance}");
@@ -280,7 +308,7 @@ fn refusals_at_each_edge() {
 fn refusals_in_order() {
     let mut random = Random::new(62);
     let mut tally = Tally::default();
-    for (stations, wrong_list) in [(0, true), (8_002, true), (20, false)] {
+    for (stations, wrong_list) in [(0, true), (100_002, true), (20, false)] {
         for (distance, wrong_distance) in [(0, true), (8_001, true), (u32::MAX, true), (5, false)] {
             for (places, too_short) in [(0, true), (19, true), (20, false)] {
                 let faults = [(wrong_list, 19), (wrong_distance, 21), (too_short, 14)];
@@ -311,17 +339,22 @@ fn all_but_touching() -> Vec<[u32; 3]> {
     crests
 }
 
-/// The accuracy rule at these heights: a station lacks passing sight where it does on the exact profile with eye and
-/// object one h-unit higher, and does not where it has it there with each one lower.
-#[test]
-fn accuracy_rule() {
-    let mut random = Random::new(64);
-    let (mut lacking, mut there, mut rounding_tells, mut below, mut above) = (0, 0, 0, 0, 0);
-    for [drop, length, distance] in all_but_touching() {
-        let first_grade = random.signed_within(drop as i32 - 1_500..=1_500) as i16;
-        let road = roads::one_crest(first_grade, drop as i16, length as u16, distance);
-        let marks = compare_all(&mut random, &heights::of_road(&road), distance);
-        let exact = exact_heights(&road);
+/// What the accuracy rule was tested on: stations that lack passing sight and that have it; where the rounding of heights changes the
+/// mark; and where it is not that of either bound.
+#[derive(Debug, Default)]
+struct Accuracy {
+    lacking: usize,
+    there: usize,
+    rounding_tells: usize,
+    below: usize,
+    above: usize,
+}
+
+impl Accuracy {
+    /// About the middle before the crest a station lacks passing sight where it does on the exact profile with eye and object one
+    /// h-unit higher, and does not where it has it there with each one lower.
+    fn expect(&mut self, road: &Road, marks: &[u8], distance: u32) {
+        let exact = exact_heights(road);
         // The three stations from which the PVI is about half as far as the distance.
         let middle = (road.curves[0].pvi - distance / 2) as usize;
         for (i, &mark) in marks.iter().enumerate().skip(middle - 1).take(3) {
@@ -331,13 +364,44 @@ fn accuracy_rule() {
             });
             let lacks = mark == LACKING;
             assert!(higher <= lacks && lacks <= lower, "station {i}, distance {distance}, {road:?}");
-            *(if lacks { &mut lacking } else { &mut there }) += 1;
-            rounding_tells += usize::from(lacks != same);
-            below += usize::from(lacks != lower);
-            above += usize::from(lacks != higher);
+            *(if lacks { &mut self.lacking } else { &mut self.there }) += 1;
+            self.rounding_tells += usize::from(lacks != same);
+            self.below += usize::from(lacks != lower);
+            self.above += usize::from(lacks != higher);
         }
     }
-    assert!(lacking > 300 && there > 1_000, "{lacking} lacking, {there} there");
-    assert!(rounding_tells >= 10, "{rounding_tells} where the rounding of heights changes the mark");
-    assert!(below > 100 && above > 20, "{below} that lack it one h-unit lower, {above} that have it one higher");
+}
+
+/// The accuracy rule at these heights, on roads of either version.
+#[test]
+fn accuracy_rule() {
+    let mut random = Random::new(64);
+    let mut met = Accuracy::default();
+    for [drop, length, distance] in all_but_touching() {
+        let first_grade = random.signed_within(drop as i32 - 1_500..=1_500) as i16;
+        let road = roads::one_crest(first_grade, drop as i16, length as u16, distance);
+        let road = in_version(random.one_of(&VERSIONS), &road);
+        let marks = compare_all(&mut random, &heights::of_road(&road), distance);
+        met.expect(&road, &marks, distance);
+    }
+    assert!(met.lacking > 300 && met.there > 1_000, "{met:?}");
+    assert!(met.rounding_tells >= 10, "{met:?}");
+    assert!(met.below > 100 && met.above > 20, "{met:?}");
+}
+
+/// The same at the far end of a road of more than 8,000 m.
+#[test]
+fn accuracy_rule_far_out() {
+    let mut random = Random::new(66);
+    let mut met = Accuracy::default();
+    for [drop, length, distance] in all_but_touching().into_iter().step_by(9) {
+        let first_grade = random.signed_within(drop as i32 - 1_500..=1_500) as i16;
+        let road = roads::one_crest(first_grade, drop as i16, length as u16, distance);
+        let before = random.one_of(&[9_000, 70_000, 100_000]) - road.length;
+        let road = roads::moved(road, before);
+        let mut marks = vec![0; road.length as usize + 1];
+        assert_eq!(exports::passing_marks(&heights::of_road(&road), distance, &mut marks), Ok(road.length + 1));
+        met.expect(&road, &marks, distance);
+    }
+    assert!(met.lacking > 30 && met.there > 50 && met.below > 5, "{met:?}");
 }

@@ -4,12 +4,13 @@
 use sight_tests::bare;
 use sight_tests::lent;
 use sight_tests::random::Random;
-use sight_tests::reference::file::{bytes, read};
+use sight_tests::reference::file::{bytes, read, read_short};
 use sight_tests::reference::marks::runs;
 use sight_tests::reference::preview::{change_length, changed, preview};
-use sight_tests::reference::road::{Curve, Road};
+use sight_tests::reference::road::{Curve, Road, GREATEST_SHORT_ROAD};
 use sight_tests::reference::Answer;
-use sight_tests::roads::{self, EXAMPLE, REFUSALS};
+use sight_tests::roads::{self, in_version};
+use sight_tests::roads::{EXAMPLE, EXAMPLE_VERSION_2, LONG_EXAMPLE, REFUSALS, VERSIONS};
 use sight_tests::tally::Tally;
 use vcp::{DECISION_LACKING, STOPPING_LACKING, STOPPING_NOT_JUDGED};
 
@@ -32,7 +33,7 @@ fn in_turn(curves: u32, apart: u32, length: u16) -> Vec<Curve> {
 
 /// An accepted road of 100 m at 20 km/h.
 fn road(first_grade: i16, curves: &[Curve]) -> Road {
-    Road { speed: 20, purpose: 1, length: 100, start_height: 0, first_grade, curves: curves.to_vec() }
+    Road { version: 1, speed: 20, purpose: 1, length: 100, start_height: 0, first_grade, curves: curves.to_vec() }
 }
 
 /// The program fills two lists of so many places just as the second calculation does, and the rest stays. So does the file.
@@ -111,12 +112,22 @@ fn compare_accepted(random: &mut Random, file: &[u8], trial: Trial) -> (Answer, 
     (answer, lists)
 }
 
-/// Compares a refused trial in lists and in a buffer of any length, which does not decide.
-fn compare_refused(random: &mut Random, file: &[u8], trial: Trial) -> Answer {
+/// Compares a refused preview in lists of any length, which does not decide.
+fn refused_preview(random: &mut Random, file: &[u8], trial: Trial) -> Answer {
     let places = [0; 2].map(|_| random.one_of(&[0, 1, 20, 300, 8_001]));
-    let (answer, _) = compare(random, file, trial, places);
-    let places = random.one_of(&[0, 15, file.len(), 209]);
-    assert_eq!(compare_changing(random, file, trial, places).0, answer, "{trial:?}, {file:02X?}");
+    compare(random, file, trial, places).0
+}
+
+/// The same of a refused change of a file, in a buffer.
+fn refused_change(random: &mut Random, file: &[u8], trial: Trial) -> Answer {
+    let places = random.one_of(&[0, 15, file.len(), 275]);
+    compare_changing(random, file, trial, places).0
+}
+
+/// Compares a trial that both refuse alike.
+fn compare_refused(random: &mut Random, file: &[u8], trial: Trial) -> Answer {
+    let answer = refused_preview(random, file, trial);
+    assert_eq!(refused_change(random, file, trial), answer, "{trial:?}, {file:02X?}");
     answer
 }
 
@@ -168,7 +179,7 @@ impl Met {
 /// Compares a trial of an accepted road, and counts it.
 fn compare_and_count(random: &mut Random, met: &mut Met, road: &Road, trial: Trial) -> Answer {
     let file = bytes(road);
-    let answer = if changed(road, trial.place, trial.length).is_ok() {
+    let answer = if changed(GREATEST_SHORT_ROAD, road, trial.place, trial.length).is_ok() {
         let (answer, lists) = compare_accepted(random, &file, trial);
         met.count_stations(&lists);
         answer
@@ -229,9 +240,9 @@ fn random_runs_of_short_crests() {
             try_place(&mut random, &mut met, &road, place);
         }
     }
-    met.expect_accepted(9_000, 2_000);
-    met.expect_stations(600, 500);
-    met.expect_refused(&[(11, 5_000), (12, 500), (13, 4_000), (25, 4_000)]);
+    met.expect_accepted(8_000, 1_500);
+    met.expect_stations(400, 300);
+    met.expect_refused(&[(11, 4_000), (12, 300), (13, 3_000), (25, 3_000)]);
     assert!(met.next_decides > 1_000, "{} refused by the next curve alone", met.next_decides);
 }
 
@@ -255,8 +266,100 @@ fn random_roads_of_every_kind() {
         assert_eq!(compare_and_count(&mut random, &mut met, &road, Trial { place, length }), Err(26));
     }
     met.expect_accepted(600, 150);
-    met.expect_stations(50, 200);
+    met.expect_stations(50, 50);
     met.expect_refused(&[(11, 300), (12, 100), (13, 150), (25, 150), (26, 239)]);
+}
+
+/// Curves far out, behind stations that two bytes do not hold: the file of the changed road is written, and the preview of such a
+/// road is refused 8, whatever is tried.
+#[test]
+fn curves_far_out() {
+    let mut random = Random::new(109);
+    let mut tally = Tally::default();
+    for _ in 0..200 {
+        let room = random.within(2..=150);
+        let road = roads::far_run_of_crests(&mut random, room);
+        let file = bytes(&road);
+        for place in 0..road.curves.len() {
+            for length in lengths(&mut random, &road, place) {
+                let trial = Trial { place: place as u32, length };
+                let accepted = acceptable(&road, place, length);
+                let answer = match accepted {
+                    true => Ok(changed_file(&mut random, &file, trial).len() as u32),
+                    false => refused_change(&mut random, &file, trial),
+                };
+                assert_eq!(answer.is_ok(), accepted, "{trial:?}, {road:?}");
+                tally.count(answer);
+                assert_eq!(refused_preview(&mut random, &file, trial), Err(8), "{trial:?}, {road:?}");
+            }
+        }
+        let beyond = Trial { place: road.curves.len() as u32, length: 2 };
+        assert_eq!(refused_change(&mut random, &file, beyond), Err(26), "{road:?}");
+    }
+    assert!(tally.numbers() > 5_000, "{} accepted", tally.numbers());
+    for (refusal, least) in [(11, 2_000), (12, 5), (13, 2_000), (25, 2_000)] {
+        assert!(tally.refused(refusal) > least, "{} refused {refusal}", tally.refused(refusal));
+    }
+}
+
+/// The curves of the example of 100 km. With 200 m the crest reaches the road's end, 100 m behind its PVI; the sag may be 2,000 m long.
+#[test]
+fn example_of_100_km() {
+    let mut random = Random::new(110);
+    for (place, length, expected) in [
+        (0, 2_000, None),
+        (0, 2_002, Some(11)),
+        (0, 0, Some(25)),
+        (1, 200, None),
+        (1, 202, Some(12)),
+        (1, 65_536 + 18, Some(11)),
+        (2, 18, Some(26)),
+    ] {
+        let trial = Trial { place, length };
+        assert_eq!(refused_preview(&mut random, &LONG_EXAMPLE, trial), Err(8), "{trial:?}");
+        match expected {
+            None => drop(changed_file(&mut random, &LONG_EXAMPLE, trial)),
+            Some(refusal) => assert_eq!(refused_change(&mut random, &LONG_EXAMPLE, trial), Err(refusal), "{trial:?}"),
+        }
+    }
+}
+
+/// The preview refuses a road over 8,000 m by 8, in the place where 8 is tested: a fault that is tested before decides, and one
+/// that is tested behind it does not, nor does what is tried. The file of the changed road is had of the longer road too.
+#[test]
+fn roads_that_are_too_long() {
+    let mut random = Random::new(111);
+    for roads::LongFile { file, short, read } in roads::long_files(&mut random) {
+        for place in [0, 31, 32, u32::MAX] {
+            let trial = Trial { place, length: random.one_of(&[0, 2, 3, 40, 2_002, u32::MAX]) };
+            assert_eq!(refused_preview(&mut random, &file, trial), Err(short), "{trial:?}, {file:02X?}");
+            match read {
+                Some(refusal) => assert_eq!(refused_change(&mut random, &file, trial), Err(refusal), "{file:02X?}"),
+                None => drop(compare_changing(&mut random, &file, trial, file.len())),
+            }
+        }
+    }
+}
+
+/// The same road in either version: the same is refused, and as many stations differ.
+#[test]
+fn a_road_in_both_versions() {
+    let mut random = Random::new(112);
+    let mut met = Met::default();
+    for _ in 0..40 {
+        let mut road = roads::steeper(roads::run_of_crests(&mut random, 60));
+        road.length += 40;
+        road.speed = random.within(20..=30) as u8;
+        for place in 0..road.curves.len() {
+            let length = roads::longest_length(&road, place) + random.one_of(&[0, 1, 2]);
+            let trial = Trial { place: place as u32, length };
+            let [one, other] =
+                VERSIONS.map(|version| compare_and_count(&mut random, &mut met, &in_version(version, &road), trial));
+            assert_eq!(one, other, "{trial:?}, {road:?}");
+        }
+    }
+    assert!(met.tally.numbers() > 200, "{} accepted", met.tally.numbers());
+    met.expect_stations(50, 1);
 }
 
 /// One crest that gets longer, so that stations gain sight, or shorter, so that they lose it, in steps of 2 m.
@@ -274,7 +377,7 @@ fn longer_and_shorter_crests() {
             assert_eq!(answer.is_ok(), acceptable(&road, 0, length), "length {length}, {road:?}");
         }
     }
-    met.expect_stations(10_000, 500);
+    met.expect_stations(5_000, 500);
     met.expect_refused(&[(12, 19), (25, 19)]);
 }
 
@@ -417,13 +520,18 @@ fn lists_of_any_length() {
 const TRIALS: [(u32, Option<u32>); 7] =
     [(40, None), (41, Some(11)), (2_002, Some(11)), (65_576, Some(11)), (262, Some(12)), (52, Some(13)), (0, Some(25))];
 
-/// A trial of the example in lists of so many places, and in a buffer that is too short where one of the lists is.
+/// A trial of the example, in either version, in lists of so many places, and in a buffer that is too short where one of the lists
+/// is.
 fn try_example(random: &mut Random, trial: Trial, places: [usize; 2]) -> Answer {
-    let (answer, _) = compare(random, &EXAMPLE, trial, places);
-    let buffer = if places.iter().any(|&places| places < 301) { EXAMPLE.len() - 1 } else { EXAMPLE.len() };
-    let (changing, _) = compare_changing(random, &EXAMPLE, trial, buffer);
-    assert_eq!(changing.err(), answer.err(), "{trial:?}, {places:?} places");
-    answer
+    let [one, other] = [&EXAMPLE[..], &EXAMPLE_VERSION_2].map(|file| {
+        let (answer, _) = compare(random, file, trial, places);
+        let buffer = if places.iter().any(|&places| places < 301) { file.len() - 1 } else { file.len() };
+        let (changing, _) = compare_changing(random, file, trial, buffer);
+        assert_eq!(changing.err(), answer.err(), "{trial:?}, {places:?} places");
+        answer
+    });
+    assert_eq!(one, other, "{trial:?}, {places:?} places");
+    one
 }
 
 /// With more than one fault the first of 26, the changed road's and 14 decides.
@@ -516,15 +624,19 @@ fn curves_that_become_breaks() {
 fn refused_files() {
     let mut random = Random::new(102);
     let mut tally = Tally::default();
-    for _ in 0..10_000 {
+    for _ in 0..12_000 {
         let file = roads::doubtful_file(&mut random);
         // A good one is left to the other tests.
-        let Err(refusal) = read(&file) else { continue };
+        let Err(refusal) = read_short(&file) else { continue };
         let place = random.one_of(&[0, 0, 1, 31, 32, 256, u32::MAX]);
         let length = random.one_of(&[0, 2, 3, 40, 2_002, 65_538, u32::MAX]);
-        let answer = compare_refused(&mut random, &file, Trial { place, length });
+        let trial = Trial { place, length };
+        let answer = refused_preview(&mut random, &file, trial);
         assert_eq!(answer, Err(refusal), "{file:02X?}");
         tally.count(answer);
+        if let Err(refusal) = read(&file) {
+            assert_eq!(refused_change(&mut random, &file, trial), Err(refusal), "{file:02X?}");
+        }
     }
     for refusal in REFUSALS {
         assert!(tally.refused(refusal) > 200, "{} refused {refusal}", tally.refused(refusal));

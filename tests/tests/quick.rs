@@ -5,17 +5,17 @@ use sight_tests::random::Random;
 use sight_tests::reference::crest::{crest_length, Crest};
 use sight_tests::reference::distances::required_distance;
 use sight_tests::reference::file::bytes;
-use sight_tests::reference::marks::mark_road_file;
+use sight_tests::reference::marks::{mark_file, mark_road_file};
 use sight_tests::reference::road::marking_grade;
 use sight_tests::reference::Answer;
 use sight_tests::roads;
 use sight_tests::tally::{Bits, Tally};
 
-/// Both quick markings leave in `places` bytes what the second calculation does. Answers the marks.
+/// The quick markings leave in `places` bytes what the second calculation does. Answers the marks.
 fn compare(file: &[u8], places: usize) -> (Answer, Vec<u8>) {
     let mut marks = vec![0xA5; places];
     let answer = mark_road_file(file, &mut marks);
-    for marking in [quick::mark_road_file, quick::mark_road_file_literally] {
+    for marking in [quick::mark_road_file, quick::mark_file, quick::mark_road_file_literally] {
         let mut list = vec![0xA5; places];
         assert_eq!(marking(file, &mut list), answer, "{places} places, {file:02X?}");
         assert_eq!(list, marks, "{places} places, {file:02X?}");
@@ -51,6 +51,30 @@ fn markings() {
     }
     assert!(bits.0[..5].iter().all(|&many| many > 100), "{:?}", bits.0);
     assert!((200..=240).contains(&falling), "{falling} of 300 roads fall");
+}
+
+/// Runs of short crests and sags far out, in every place where such a run may be. The tests of marks compare the library with this
+/// side there.
+#[test]
+fn markings_of_long_roads() {
+    let mut random = Random::new(83);
+    let mut bits = Bits::default();
+    for _ in 0..8 {
+        let mut road = roads::steeper(roads::far_run_of_crests(&mut random, 150));
+        (road.speed, road.purpose) = (random.within(20..=25) as u8, 1);
+        let file = bytes(&road);
+        let stations = road.length as usize + 1;
+        let [mut marks, mut second] = [(); 2].map(|_| vec![0xA5; stations + 3]);
+        for marking in [quick::mark_road_file, quick::mark_road_file_literally] {
+            assert_eq!(marking(&file, &mut marks), Err(8), "{road:?}");
+        }
+        assert_eq!(quick::mark_file(&file, &mut marks[..stations - 1]), Err(14));
+        assert_eq!(quick::mark_file(&file, &mut marks), Ok(stations as u32));
+        assert_eq!(mark_file(&file, &mut second), Ok(stations as u32));
+        assert!(marks == second, "{road:?}");
+        bits.count(&marks[8_000..stations]);
+    }
+    assert!(bits.0[..5].iter().all(|&many| many > 5), "{:?}", bits.0);
 }
 
 #[test]

@@ -1,5 +1,7 @@
-//! docs/RULES.md, "What can be seen": sight over lent heights, over those of roads, and on the exact parabolas and
-//! straights.
+//! docs/RULES.md, "What can be seen": sight over lent heights, over those of roads of either version, and on the exact parabolas
+//! and straights.
+
+use std::ops::RangeInclusive;
 
 use sight_tests::bare;
 use sight_tests::heights;
@@ -176,16 +178,50 @@ fn random_runs_of_short_crests() {
     assert!(missed_by_late > 4_000, "{missed_by_late} where turning late shows more");
 }
 
+/// The stations of a road from so many metres before its first curve to as many behind its last one.
+fn about_the_curves(road: &Road, metres: u32) -> RangeInclusive<usize> {
+    let first = road.curves.first().map_or(0, |curve| (curve.begin() as usize).saturating_sub(metres as usize));
+    let last = road.curves.last().map_or(0, |curve| curve.end() as u32 + metres);
+    first..=road.length.min(last) as usize
+}
+
+/// Runs of short crests and sags far out: about them the sights of the profile and of single stations are those of the second
+/// calculation. Cut to two bytes a station would be another one, on a straight.
+#[test]
+fn random_runs_of_short_crests_far_out() {
+    let mut random = Random::new(22);
+    let (mut stations, mut hidden, mut far) = (0, 0, 0);
+    for _ in 0..40 {
+        let room = random.within(20..=80);
+        let road = roads::steeper(roads::far_run_of_crests(&mut random, room));
+        let heights = heights::of_road(&road);
+        let look = if random.once_in(2) { look(EYE, OBJECT, 80) } else { any_look(&mut random, 100) };
+        let mut sights = vec![0; heights.len()];
+        assert_eq!(exports::sight_profile(&heights, asked(look), &mut sights), Ok(road.length + 1));
+        for station in about_the_curves(&road, 80) {
+            let there = u32::from(sights[station]);
+            assert_eq!(compare_sight(&heights, station as u32, look), Ok(there), "{road:?}");
+            stations += 1;
+            let most = look.farthest.min(road.length - station as u32);
+            hidden += usize::from(there < most);
+            far += usize::from(there < most && station > 65_535);
+        }
+    }
+    assert!(stations > 4_000, "{stations} stations");
+    assert!(hidden > 500 && far > 200, "{hidden} with a hidden station ahead, {far} of them behind 65,535");
+}
+
 #[test]
 fn longest_list() {
     let mut random = Random::new(16);
-    let road = roads::longest(&mut random);
-    let heights = heights::of_road(&road);
-    assert_eq!(heights.len(), 8_001);
-    compare_all(&mut random, &heights, look(EYE, OBJECT, 30));
+    for road in [roads::longest(&mut random), roads::longest_of_all(&mut random)] {
+        let heights = heights::of_road(&road);
+        assert_eq!(heights.len(), road.length as usize + 1);
+        compare_all(&mut random, &heights, look(EYE, OBJECT, 30));
+    }
     // On a straight everything is seen, up to the greatest of the farthest distances.
-    let straight: Vec<i32> = (0..8_001).map(|station| 90_000_000 - 1_500 * station).collect();
-    for (station, sight) in [(0, 8_000), (1, 7_999), (7_999, 1), (8_000, 0)] {
+    let straight: Vec<i32> = (0..100_001).map(|station| 90_000_000 - 1_500 * station).collect();
+    for (station, sight) in [(0, 8_000), (92_000, 8_000), (92_001, 7_999), (99_999, 1), (100_000, 0)] {
         assert_eq!(compare_sight(&straight, station, look(1, 1, 8_000)), Ok(sight));
     }
 }
@@ -193,19 +229,24 @@ fn longest_list() {
 #[test]
 fn refusals_at_each_edge() {
     let mut random = Random::new(17);
-    let flat = [0; 8_002];
+    let flat = vec![0; 100_002];
     let good = look(EYE, OBJECT, 10);
-    for (stations, answer) in [(0, Err(19)), (1, Ok(0)), (2, Ok(1)), (8_001, Ok(10)), (8_002, Err(19))] {
+    let accepted = [(1, 0), (2, 1), (8_001, 10), (8_002, 10), (65_537, 10), (100_001, 10)];
+    let accepted = accepted.map(|(stations, sight)| (stations, Ok(sight)));
+    for (stations, answer) in accepted.into_iter().chain([(0, Err(19)), (100_002, Err(19))]) {
         assert_eq!(compare_sight(&flat[..stations], 0, good), answer, "{stations} stations");
         let filled = answer.map(|_| stations as u32);
-        assert_eq!(compare_profile(&mut random, &flat[..stations], good, 8_002).0, filled, "{stations} stations");
+        assert_eq!(compare_profile(&mut random, &flat[..stations], good, 100_002).0, filled, "{stations} stations");
     }
     let heights = &flat[..50];
     for (station, answer) in [(0, 10), (48, 1), (49, 0)] {
         assert_eq!(compare_sight(heights, station, good), Ok(answer), "station {station}");
     }
-    for station in [50, 8_001, 65_536, u32::MAX] {
+    for station in [50, 8_001, 65_536, 65_546, 100_001, u32::MAX] {
         assert_eq!(compare_sight(heights, station, good), Err(20), "station {station}");
+    }
+    for station in [100_001, 100_002, 131_072, u32::MAX] {
+        assert_eq!(compare_sight(&flat[..100_001], station, good), Err(20), "station {station}");
     }
     for (height, accepted) in
         [(0, false), (1, true), (50_000, true), (50_001, false), (65_537, false), (u32::MAX, false)]
@@ -239,7 +280,7 @@ fn refusals_in_order() {
         let first = |order: [u32; 4], good: u32| {
             (0..).zip(order).find(|&(at, _)| has(at)).map_or(Ok(good), |(_, refusal)| Err(refusal))
         };
-        let heights = vec![0; if has(0) { random.one_of(&[0, 8_002]) } else { 20 }];
+        let heights = vec![0; if has(0) { random.one_of(&[0, 100_002]) } else { 20 }];
         let bad = random.one_of(&[0, 50_001]);
 
         let (eye, object) = random.one_of(&[(bad, 1), (1, bad), (bad, bad)]);
@@ -248,7 +289,7 @@ fn refusals_in_order() {
             object: if heights_bad { object } else { OBJECT },
             farthest: if distance_bad { bad } else { 5 },
         };
-        let answer = compare_sight(&heights, if has(1) { 9_000 } else { 0 }, look(has(2), has(3)));
+        let answer = compare_sight(&heights, if has(1) { 100_002 } else { 0 }, look(has(2), has(3)));
         assert_eq!(answer, first([19, 20, 17, 21], 5));
         of_station.count(answer);
 
@@ -261,12 +302,49 @@ fn refusals_in_order() {
     assert_eq!([19, 17, 21, 14].map(|refusal| of_profile.refused(refusal)), [8, 4, 2, 1]);
 }
 
-/// The accuracy rule: the program's sight lies between the sight on the exact profile with eye and object each a tenth
-/// of a millimetre lower, and with each as much higher.
+/// At how many stations the accuracy rule was tested; where the rounding of heights changes the sight; and where the sight is above
+/// the one bound and below the other.
+#[derive(Debug, Default)]
+struct Accuracy {
+    stations: usize,
+    rounding_tells: usize,
+    below: usize,
+    above: usize,
+}
+
+impl Accuracy {
+    /// From these stations the program's sight lies between the sight on the exact profile with eye and object each a tenth of a
+    /// millimetre lower, and with each as much higher.
+    fn expect(&mut self, road: &Road, look: Look, stations: RangeInclusive<usize>) {
+        let mut sights = vec![0; road.length as usize + 1];
+        assert_eq!(exports::sight_profile(&heights::of_road(road), asked(look), &mut sights), Ok(road.length + 1));
+        let exact = exact_heights(road);
+        let lower = Look { eye: look.eye - 1, object: look.object - 1, ..look };
+        let higher = Look { eye: look.eye + 1, object: look.object + 1, ..look };
+        for i in stations {
+            let there = usize::from(sights[i]);
+            let least = available_sight(&exact, lower, i);
+            let most = available_sight(&exact, higher, i);
+            assert!(least <= there && there <= most, "{least}, {there}, {most} from {i}, {look:?}, {road:?}");
+            self.stations += 1;
+            self.rounding_tells += usize::from(there != available_sight(&exact, look, i));
+            self.below += usize::from(least < there);
+            self.above += usize::from(there < most);
+        }
+    }
+}
+
+/// Low eyes and objects, for which the rounding of heights tells, and high ones.
+fn any_heights(random: &mut Random, farthest: u32) -> Look {
+    let eye = random.one_of(&[1, 2, 5, 50, 500, EYE, 50_000]);
+    let object = random.one_of(&[1, 2, 5, 50, 500, OBJECT, 50_000]);
+    look(eye, object, farthest)
+}
+
 #[test]
 fn accuracy_rule() {
     let mut random = Random::new(19);
-    let (mut stations, mut rounding_tells, mut below, mut above) = (0, 0, 0, 0);
+    let mut met = Accuracy::default();
     for _ in 0..2_000 {
         let room = random.within(2..=60);
         let road = match random.within(0..=3) {
@@ -275,28 +353,27 @@ fn accuracy_rule() {
             _ => roads::run_of_crests(&mut random, room),
         };
         let road = roads::gentler(road, random.one_of(&[1, 10, 100, 100]));
-        let eye = random.one_of(&[1, 2, 5, 50, 500, EYE, 50_000]);
-        let object = random.one_of(&[1, 2, 5, 50, 500, OBJECT, 50_000]);
-        let look = look(eye, object, random.one_of(&[60, 60, 20, 8_000]));
-        let mut sights = vec![0; road.length as usize + 1];
-        assert_eq!(exports::sight_profile(&heights::of_road(&road), asked(look), &mut sights), Ok(road.length + 1));
-        let exact = exact_heights(&road);
-        let lower = Look { eye: eye - 1, object: object - 1, ..look };
-        let higher = Look { eye: eye + 1, object: object + 1, ..look };
-        for (i, &there) in sights.iter().enumerate() {
-            let there = usize::from(there);
-            let least = available_sight(&exact, lower, i);
-            let most = available_sight(&exact, higher, i);
-            assert!(least <= there && there <= most, "{least}, {there}, {most} from {i}, {look:?}, {road:?}");
-            stations += 1;
-            rounding_tells += usize::from(there != available_sight(&exact, look, i));
-            below += usize::from(least < there);
-            above += usize::from(there < most);
-        }
+        let farthest = random.one_of(&[60, 60, 20, 8_000]);
+        let look = any_heights(&mut random, farthest);
+        met.expect(&road, look, 0..=road.length as usize);
     }
-    assert!(stations > 30_000, "{stations} stations");
-    assert!(rounding_tells > 200, "{rounding_tells} where the rounding of heights changes the sight");
-    assert!(below > 1_000 && above > 1_000, "{below} above the lower bound, {above} below the upper bound");
+    assert!(met.stations > 30_000 && met.rounding_tells > 200, "{met:?}");
+    assert!(met.below > 1_000 && met.above > 1_000, "{met:?}");
+}
+
+/// The same on roads of more than 8,000 m, about their runs of short crests.
+#[test]
+fn accuracy_rule_far_out() {
+    let mut random = Random::new(23);
+    let mut met = Accuracy::default();
+    for _ in 0..30 {
+        let road = roads::far_run_of_crests(&mut random, 60);
+        let road = roads::gentler(road, random.one_of(&[1, 10, 100, 100]));
+        let look = any_heights(&mut random, 60);
+        met.expect(&road, look, about_the_curves(&road, 20));
+    }
+    assert!(met.stations > 1_500 && met.rounding_tells > 10, "{met:?}");
+    assert!(met.below > 50 && met.above > 50, "{met:?}");
 }
 
 /// The sight of a look-ahead that tests the line against one curve only, the nearest that does not end before the

@@ -1,10 +1,10 @@
-// What a road file's road needs and how it is marked, exported for the command vcp and the tests. An answer is a signed number, and a
+// How a road file's road is marked and what it needs, exported for the command vcp and the tests. An answer is a signed number, and a
 // refusal is minus its number.
 ghost use mathlib.Core.Path.{_≡_};
 ghost use Rattle.terms.specs.Answers.{signed};
 ghost use Rattle.terms.specs.Limits.{greatestLongRoad};
 ghost use Rattle.road_marks.specs.RoadMarks.{markFileAnswer, markFileList};
-ghost use Rattle.road_exports.specs.RoadExports.{fileStopping, fileDecision, shortStations};
+ghost use Rattle.road_exports.specs.RoadExports.{fileDistance, shortStations};
 use terms::Answer;
 use terms::Verdict;
 
@@ -17,9 +17,10 @@ pub extern "C" fn vcp_mark_file(file: &[u8], marks: &mut [u8]) -> i64
     terms::signed_answer(road_marks::mark_road_file(file, marks))
 }
 
+// The distance that the road needs for a purpose, at its own speed and on the grade that it is marked with.
 #[no_mangle]
-pub extern "C" fn vcp_file_stopping(file: &[u8]) -> i64
-    ensures { λ r. ⌜ r ≡ signed (fileStopping (now (file .entry))) ⌝ }
+pub extern "C" fn vcp_file_distance(file: &[u8], purpose: u32) -> i64
+    ensures { λ r. ⌜ r ≡ signed (fileDistance (now (file .entry)) purpose) ⌝ }
 {
     let read = file::read(file, terms::GREATEST_LONG_ROAD);
     let verdict = read.verdict;
@@ -27,22 +28,12 @@ pub extern "C" fn vcp_file_stopping(file: &[u8]) -> i64
         return terms::signed_answer(Answer::Refused(number));
     }
     let road = read.road;
-    let needed = road_distances::road_distances(road);
-    terms::signed_answer(Answer::Number(needed.stopping))
-}
-
-#[no_mangle]
-pub extern "C" fn vcp_file_decision(file: &[u8]) -> i64
-    ensures { λ r. ⌜ r ≡ signed (fileDecision (now (file .entry))) ⌝ }
-{
-    let read = file::read(file, terms::GREATEST_LONG_ROAD);
-    let verdict = read.verdict;
-    if let Verdict::Fault(number) = verdict {
-        return terms::signed_answer(Answer::Refused(number));
-    }
-    let road = read.road;
-    let needed = road_distances::road_distances(road);
-    terms::signed_answer(Answer::Number(needed.decision))
+    let grade = road_distances::road_grade(road);
+    terms::signed_answer(distance::required_distance(
+        road.speed as u32,
+        purpose,
+        grade,
+    ))
 }
 
 // The stations of a road that the lister, the preview and the van's marking take.

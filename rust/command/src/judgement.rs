@@ -64,16 +64,16 @@ pub struct Judgement {
 impl Judgement {
     /// That of a road file.
     pub fn of_road(file: &[u8]) -> Result<Judgement, Refusal> {
-        let [_, speed, purpose, ..] = roadtext::road_numbers(file)?.head;
+        let [_, speed, purpose, ..] = roadtext::road_numbers(file)?.head.map(|number| number as u32);
         let mut marks = vec![0; LONG_STATIONS];
         let stations = exports::mark_file(file, &mut marks)?;
         marks.truncate(stations as usize);
         Ok(Judgement {
-            speed: speed as u32,
-            purpose: purpose as u32,
+            speed,
+            purpose,
             grade: exports::file_grade(file)?,
-            stopping: exports::file_stopping(file)?,
-            decision: exports::file_decision(file)?,
+            stopping: exports::file_distance(file, purpose::STOPPING)?,
+            decision: exports::file_distance(file, purpose)?,
             stations,
             zones: zones_by_letter(&marks)?,
         })

@@ -91,8 +91,7 @@ extern "C" {
     fn vcp_file_heights(file: *const u8, file_length: usize, list: *mut i32, list_length: usize) -> i64;
     fn vcp_file_downgrade(file: *const u8, file_length: usize) -> i64;
     fn vcp_mark_file(file: *const u8, file_length: usize, marks: *mut u8, marks_length: usize) -> i64;
-    fn vcp_file_stopping(file: *const u8, file_length: usize) -> i64;
-    fn vcp_file_decision(file: *const u8, file_length: usize) -> i64;
+    fn vcp_file_distance(file: *const u8, file_length: usize, purpose: u32) -> i64;
     fn vcp_short_stations(file: *const u8, file_length: usize) -> i64;
     fn vcp_change_length(
         file: *const u8,
@@ -257,7 +256,7 @@ pub fn file_grade(file: &[u8]) -> Result<i32, Refusal> {
 
 /// Reads a road file of either version and writes the mark of each station of its road, from station 0 on; answers how many
 /// stations there are. `vcp::mark_road_file` says what the bits mean; that one takes no road over 8,000 m. A list of
-/// [`LONG_STATIONS`] holds any road's. The call needs about 410 KiB of the thread's stack.
+/// [`LONG_STATIONS`] holds any road's. The call needs about 400 KiB of the thread's stack.
 ///
 /// # Errors
 /// Refused 1 to 13 and 25 as reading the file refuses it, then 14 if the list has fewer places than the road has stations.
@@ -266,23 +265,14 @@ pub fn mark_file(file: &[u8], marks: &mut [u8]) -> Result<u32, Refusal> {
     refusal::answer(unsafe { vcp_mark_file(file.as_ptr(), file.len(), marks.as_mut_ptr(), marks.len()) })
 }
 
-/// Reads a road file of either version and answers the distance in metres that its road needs to stop, on the grade that it is
-/// marked with.
+/// Reads a road file of either version and answers the distance in metres that its road needs for a purpose, at its own speed and
+/// on the grade that it is marked with. `vcp::required_distance` says what the purposes are.
 ///
 /// # Errors
-/// Refused 1 to 13 and 25 as reading the file refuses it.
-pub fn file_stopping(file: &[u8]) -> Result<u32, Refusal> {
+/// Refused 1 to 13 and 25 as reading the file refuses it, then 7 if the purpose is not 0 to 5.
+pub fn file_distance(file: &[u8], purpose: u32) -> Result<u32, Refusal> {
     // SAFETY: as for `sight`.
-    refusal::answer(unsafe { vcp_file_stopping(file.as_ptr(), file.len()) })
-}
-
-/// The same of the distance that its road needs to decide, for its own purpose.
-///
-/// # Errors
-/// Refused as [`file_stopping`] is.
-pub fn file_decision(file: &[u8]) -> Result<u32, Refusal> {
-    // SAFETY: as for `sight`.
-    refusal::answer(unsafe { vcp_file_decision(file.as_ptr(), file.len()) })
+    refusal::answer(unsafe { vcp_file_distance(file.as_ptr(), file.len(), purpose) })
 }
 
 /// Reads a road file as the listing, the preview and the van's marking do, and answers how many stations its road has.

@@ -1,9 +1,8 @@
 //! docs/RULES.md, "The lister".
 
-use super::distances::required_distance;
-use super::file::read;
-use super::marks::{mark_road_file, runs};
-use super::road::marking_grade;
+use super::file::read_short;
+use super::marks::{mark_road, runs};
+use super::road::required_distances;
 
 /// The letters in the order of their bits, which is that of the listing.
 const LETTERS: [char; 5] = ['S', 'D', 'R', 's', 'd'];
@@ -14,13 +13,11 @@ pub fn listing(file: &[u8]) -> String {
 }
 
 fn lines(file: &[u8]) -> Result<String, u32> {
-    let road = read(file)?;
-    let grade = marking_grade(&road);
-    let stopping = required_distance(road.speed.into(), 0, grade)?;
-    let decision = required_distance(road.speed.into(), road.purpose.into(), grade)?;
+    let road = read_short(file)?;
+    let [stopping, decision] = required_distances(&road);
     let mut marks = vec![0; road.length as usize + 1];
-    mark_road_file(file, &mut marks)?;
-    let mut text = format!("VCP 1 {} {stopping} {decision}\n", road.speed);
+    mark_road(&road, &mut marks)?;
+    let mut text = format!("VCP {} {} {stopping} {decision}\n", road.version, road.speed);
     for (bit, letter) in (0..).zip(LETTERS) {
         for [first, last] in runs(&marks, bit) {
             text += &format!("{letter} {first} {last}\n");

@@ -1,7 +1,7 @@
 //! docs/RULES.md, "Marks and zones".
 
 use super::distances::required_distance;
-use super::file::read;
+use super::file::{read, read_short};
 use super::road::{marking_grade, stored_height, Road};
 use super::sight::{available_sight, fill, list_verdict, Look};
 use super::Answer;
@@ -64,19 +64,25 @@ pub(super) fn mark_road(road: &Road, list: &mut [u8]) -> Answer {
     marks(road.speed.into(), road.purpose.into(), marking_grade(road), &heights, list)
 }
 
-pub fn mark_road_file(file: &[u8], list: &mut [u8]) -> Answer {
+/// Reads a file and marks its road, as the library does.
+pub fn mark_file(file: &[u8], list: &mut [u8]) -> Answer {
     mark_road(&read(file)?, list)
 }
 
+/// The same as the van does.
+pub fn mark_road_file(file: &[u8], list: &mut [u8]) -> Answer {
+    mark_road(&read_short(file)?, list)
+}
+
 /// All longest runs of stations with this bit, ascending, each as its first and last station.
-pub fn runs(marks: &[u8], bit: u32) -> Vec<[u16; 2]> {
+pub fn runs(marks: &[u8], bit: u32) -> Vec<[u32; 2]> {
     let has_bit = |station: usize| marks.get(station).is_some_and(|mark| mark >> bit & 1 == 1);
     let firsts = (0..marks.len()).filter(|&station| has_bit(station) && (station == 0 || !has_bit(station - 1)));
     let lasts = (0..marks.len()).filter(|&station| has_bit(station) && !has_bit(station + 1));
-    firsts.zip(lasts).map(|(first, last)| [first as u16, last as u16]).collect()
+    firsts.zip(lasts).map(|(first, last)| [first as u32, last as u32]).collect()
 }
 
-pub fn zones(marks: &[u8], bit: u32, list: &mut [u16]) -> Answer {
+pub fn zones(marks: &[u8], bit: u32, list: &mut [u32]) -> Answer {
     if bit > 6 {
         return Err(22);
     }

@@ -1,7 +1,14 @@
 //! docs/RULES.md, "The road and its heights", and the refusals of a road handed over as a value.
 
+use super::distances::required_distance;
 use super::fraction::Fraction;
 use super::Answer;
+
+/// The greatest length in metres of a road of version 1, and of any that the lister, the preview and the van's marking take.
+pub const GREATEST_SHORT_ROAD: u32 = 8_000;
+
+/// The greatest length in metres of a road of version 2, for all other operations.
+pub const GREATEST_LONG_ROAD: u32 = 100_000;
 
 #[derive(Clone, Copy, Debug, PartialEq)]
 pub struct Curve {
@@ -13,6 +20,7 @@ pub struct Curve {
 /// A road as a value. Its number of curves is that of the list, which holds no unused places.
 #[derive(Clone, Debug, PartialEq)]
 pub struct Road {
+    pub version: u16,
     pub speed: u8,
     pub purpose: u8,
     pub length: u32,
@@ -33,9 +41,18 @@ impl Curve {
     }
 }
 
-/// Refusals 4, 6 to 13 and 25, in the rules' order.
+/// Refusals 3, 4, 6 to 13 and 25, in the rules' order.
 pub fn verdict(road: &Road) -> Result<(), u32> {
-    let grade_in_range = |grade: i16| (-1_500..=1_500).contains(&grade);
+    verdict_up_to(GREATEST_LONG_ROAD, road)
+}
+
+/// The same for an operation that takes no road over so many metres, whatever its version is.
+pub fn verdict_up_to(most: u32, road: &Road) -> Result<(), u32> {
+    let of_version = match road.version {
+        1 => GREATEST_SHORT_ROAD,
+        2 => GREATEST_LONG_ROAD,
+        _ => return Err(3),
+    };
     if road.curves.len() > 32 {
         return Err(4);
     }
@@ -45,7 +62,7 @@ pub fn verdict(road: &Road) -> Result<(), u32> {
     if !(1..=5).contains(&road.purpose) {
         return Err(7);
     }
-    if !(1..=8_000).contains(&road.length) {
+    if !(1..=of_version.min(most)).contains(&road.length) {
         return Err(8);
     }
     if !(-10_000_000..=90_000_000).contains(&road.start_height) {
@@ -54,6 +71,15 @@ pub fn verdict(road: &Road) -> Result<(), u32> {
     if !grade_in_range(road.first_grade) {
         return Err(10);
     }
+    curves_verdict(road)
+}
+
+fn grade_in_range(grade: i16) -> bool {
+    (-1_500..=1_500).contains(&grade)
+}
+
+/// Refusals 10 to 13 and 25 of the curves: the lowest curve with a fault decides.
+fn curves_verdict(road: &Road) -> Result<(), u32> {
     let mut grade_in = road.first_grade;
     for (place, curve) in road.curves.iter().enumerate() {
         if !grade_in_range(curve.grade_out) {
@@ -80,6 +106,12 @@ pub fn verdict(road: &Road) -> Result<(), u32> {
 pub fn marking_grade(road: &Road) -> i32 {
     let grades = [road.first_grade].into_iter().chain(road.curves.iter().map(|curve| curve.grade_out));
     grades.filter(|&grade| grade < 0).min().unwrap_or(0).into()
+}
+
+/// The distances that an accepted road requires for stopping and for its own decision, on the grade that it is marked with.
+pub fn required_distances(road: &Road) -> [u32; 2] {
+    let required = |purpose: u8| required_distance(road.speed.into(), purpose.into(), marking_grade(road));
+    [0, road.purpose].map(|purpose| required(purpose).expect("the road is accepted"))
 }
 
 /// d metres after a curve's begin: begin height + (grade in) d + (grade out − grade in) d² / (2L).

@@ -1,7 +1,8 @@
 //! `make bench`: the proved functions beside the same calculations in safe Rust and beside the literal rule, on the same
-//! inputs in one run. The two sides take turns round by round, so that the machine's load falls on both alike. Times are
-//! those on the processor: what other programs took meanwhile does not count. Last, the command's listing of many roads
-//! beside their marking, by the clock on the wall.
+//! inputs in one run, and the library's marking of long roads beside that of shorter ones. The two sides take turns round by
+//! round, so that the machine's load falls on both alike. Times are those on the processor: what other programs took meanwhile
+//! does not count. Then the command's listing of many roads beside their marking, by the clock on the wall, and last the stack
+//! that each operation takes.
 
 use std::fmt::Debug;
 use std::fs;
@@ -21,6 +22,8 @@ use sight_tests::reference::file::bytes;
 use sight_tests::reference::road::{marking_grade, Curve, Road};
 use sight_tests::reference::Answer;
 
+mod stack;
+
 const ROUNDS: usize = 15;
 
 /// A side's turn in a round lasts at least so many microseconds: what is quick is repeated.
@@ -29,8 +32,16 @@ const TURN: f64 = 2_000.0;
 /// The slowest that the van may be beside safe Rust, on roads.
 const TIMES_RUST: f64 = 1.1;
 
-/// The least that the van is faster than the literal rule, on long roads.
+/// The least that the van is faster than the literal rule, on roads of 8,000 m.
 const TIMES_FASTER: f64 = 20.0;
+
+/// The longest that the marking of 100,000 m may take beside that of their first 8,000 m. The last 525 stations of either are not
+/// judged, so that 13.3 times as many are.
+const TIMES_SHORT: f64 = 14.0;
+
+/// The metres of the longest road that the van takes, and of the longest of all.
+const SHORT: u32 = 8_000;
+const LONG: u32 = 100_000;
 
 /// How many roads are listed in one call, and in how many rounds.
 const LISTED: usize = 1_000;
@@ -64,9 +75,9 @@ fn processor_time() -> f64 {
 /// One side: it does its work once.
 type Side<'a> = &'a mut dyn FnMut();
 
-/// The medians of both sides in microseconds, and the median of the rounds' ratios, the van's time to the other's.
+/// The medians of both sides in microseconds, and the median of the rounds' ratios, our time to the other's.
 struct Times {
-    van: f64,
+    ours: f64,
     other: f64,
     ratio: f64,
 }
@@ -95,41 +106,60 @@ fn repetitions(side: Side) -> u32 {
 }
 
 /// Both sides in turn, the one that begins changing with each round.
-fn side_by_side(van: Side, other: Side) -> Times {
-    let (van_many, other_many) = (repetitions(&mut *van), repetitions(&mut *other));
-    let (mut van_times, mut other_times) = (Vec::new(), Vec::new());
+fn side_by_side(ours: Side, other: Side) -> Times {
+    let (our_many, other_many) = (repetitions(&mut *ours), repetitions(&mut *other));
+    let (mut our_times, mut other_times) = (Vec::new(), Vec::new());
     for round in 0..ROUNDS {
         if round % 2 == 0 {
-            van_times.push(measure(&mut *van, van_many));
+            our_times.push(measure(&mut *ours, our_many));
             other_times.push(measure(&mut *other, other_many));
         } else {
             other_times.push(measure(&mut *other, other_many));
-            van_times.push(measure(&mut *van, van_many));
+            our_times.push(measure(&mut *ours, our_many));
         }
     }
-    let ratios = van_times.iter().zip(&other_times).map(|(van, other)| van / other).collect();
-    Times { van: median(van_times), other: median(other_times), ratio: median(ratios) }
+    let ratios = our_times.iter().zip(&other_times).map(|(ours, other)| ours / other).collect();
+    Times { ours: median(our_times), other: median(other_times), ratio: median(ratios) }
 }
 
 /// A calculation that marks a road file.
 type Marking = fn(&[u8], &mut [u8]) -> Answer;
 
-/// The van's marking beside another, which gives the same bytes.
-fn markings(road: &Road, other: Marking) -> Times {
-    let file = bytes(road);
-    let stations = road.length as usize + 1;
-    let (mut van_marks, mut other_marks) = (vec![0xFF; stations], vec![0xFF; stations]);
-    assert_eq!(vcp::mark_road_file(&file, &mut van_marks), Ok(stations as u32), "{road:?}");
-    assert_eq!(other(&file, &mut other_marks), Ok(stations as u32), "{road:?}");
-    assert_eq!(van_marks, other_marks, "{road:?}");
+/// The van's marking.
+fn by_the_van(file: &[u8], marks: &mut [u8]) -> Answer {
+    bare(vcp::mark_road_file(file, marks))
+}
+
+/// The library's, which takes roads of any length.
+fn by_the_library(file: &[u8], marks: &mut [u8]) -> Answer {
+    bare(exports::mark_file(file, marks))
+}
+
+/// The file of a road and its marks.
+fn marked(road: &Road, marking: Marking) -> (Vec<u8>, Vec<u8>) {
+    let (file, stations) = (bytes(road), road.length as usize + 1);
+    let mut marks = vec![0xFF; stations];
+    assert_eq!(marking(&file, &mut marks), Ok(stations as u32), "{road:?}");
+    (file, marks)
+}
+
+/// A marking of a road beside a marking of the same road or of another.
+fn roads_beside((road, marking): (&Road, Marking), (other_road, other_marking): (&Road, Marking)) -> Times {
+    let ((file, mut marks), (other_file, mut other_marks)) = (marked(road, marking), marked(other_road, other_marking));
+    assert!(road != other_road || marks == other_marks, "{road:?}");
     side_by_side(
         &mut || {
-            let _ = black_box(vcp::mark_road_file(black_box(&file), black_box(&mut van_marks)));
+            let _ = black_box(marking(black_box(&file), black_box(&mut marks)));
         },
         &mut || {
-            let _ = black_box(other(black_box(&file), black_box(&mut other_marks)));
+            let _ = black_box(other_marking(black_box(&other_file), black_box(&mut other_marks)));
         },
     )
+}
+
+/// A marking of a road beside another of it, which gives the same bytes.
+fn markings(road: &Road, ours: Marking, other: Marking) -> Times {
+    roads_beside((road, ours), (road, other))
 }
 
 /// The van's answers beside the Rust ones, which are the same: the times of one answer.
@@ -154,7 +184,7 @@ fn answers<T: Copy + Debug>(
         },
     );
     let many = inputs.len() as f64;
-    Times { van: times.van / many, other: times.other / many, ratio: times.ratio }
+    Times { ours: times.ours / many, other: times.other / many, ratio: times.ratio }
 }
 
 /// Crest lengths for any numbers in their ranges.
@@ -180,32 +210,49 @@ fn level_distances() -> Times {
     answers(&asked, van, |[speed, purpose]| quick::required_distance(speed, purpose, 0))
 }
 
-/// A level road whose decision distance is that of purpose E.
+/// A level road whose decision distance is that of purpose E. Over 8,000 m it is of version 2.
 fn level(length: u32, speed: u8) -> Road {
-    Road { speed, purpose: 5, length, start_height: 0, first_grade: 0, curves: vec![] }
+    let version = if length > SHORT { 2 } else { 1 };
+    Road { version, speed, purpose: 5, length, start_height: 0, first_grade: 0, curves: vec![] }
 }
 
-/// A road of 8,000 m with a short curve every 250 m, from this grade to those that follow it.
-fn curved(first_grade: i16, grade_out: impl Fn(i16) -> i16) -> Road {
-    let curve = |place: i16| Curve { pvi: 125 + 250 * place as u32, length: 120, grade_out: grade_out(place) };
-    Road { first_grade, curves: (0..32).map(curve).collect(), ..level(8_000, 130) }
+/// A road with 32 short curves at equal distances, every 250 m on 8,000 m, from this grade to those that follow it.
+fn curved(length: u32, first_grade: i16, grade_out: impl Fn(i16) -> i16) -> Road {
+    let pvi = |place: i16| (2 * place as u32 + 1) * length / 64;
+    let curve = |place: i16| Curve { pvi: pvi(place), length: 120, grade_out: grade_out(place) };
+    Road { first_grade, curves: (0..32).map(curve).collect(), ..level(length, 130) }
 }
 
-/// The roads with their names, the long ones first.
-fn roads() -> Vec<(&'static str, Road)> {
+/// A road with 32 short crests.
+fn crests(length: u32) -> Road {
+    curved(length, 1_440, |place| 1_440 - 90 * (place + 1))
+}
+
+/// A road of 300 m with one crest.
+fn one_crest() -> Road {
     let crest = Curve { pvi: 150, length: 60, grade_out: -400 };
+    Road { purpose: 1, first_grade: 400, curves: vec![crest], ..level(300, 60) }
+}
+
+/// The van's roads with their names, the long ones first.
+fn roads() -> Vec<(&'static str, Road)> {
     vec![
-        ("8,000 m level", level(8_000, 130)),
-        ("8,000 m, 32 crests", curved(1_440, |place| 1_440 - 90 * (place + 1))),
-        ("8,000 m, 16 crests and 16 sags", curved(400, |place| if place % 2 == 0 { -400 } else { 400 })),
-        ("300 m, one crest", Road { purpose: 1, first_grade: 400, curves: vec![crest], ..level(300, 60) }),
+        ("8,000 m level", level(SHORT, 130)),
+        ("8,000 m, 32 crests", crests(SHORT)),
+        ("8,000 m, 16 crests and 16 sags", curved(SHORT, 400, |place| if place % 2 == 0 { -400 } else { 400 })),
+        ("300 m, one crest", one_crest()),
     ]
 }
 
+fn heading(what: &str, ours: &str) {
+    println!("{:32} {:18} {ours:>12} {:>14} {:>9} {:>9}", "", "", "the other", "ratio of", "median");
+    println!("{what:32} {:18} {:>12} {:>14} {:>9} {:>9}  target", "beside", "us", "us", "medians", "ratio");
+}
+
 fn row(name: &str, other: &str, times: &Times, ratio: [f64; 2], target: &str) {
-    let Times { van, other: time, .. } = times;
+    let Times { ours, other: time, .. } = times;
     let [of_medians, of_rounds] = ratio;
-    println!("{name:32} {other:12} {van:12.3} {time:14.3} {of_medians:9.2} {of_rounds:9.2}  {target}");
+    println!("{name:32} {other:18} {ours:12.3} {time:14.3} {of_medians:9.2} {of_rounds:9.2}  {target}");
 }
 
 fn verdict(met: bool) -> &'static str {
@@ -218,23 +265,43 @@ fn verdict(met: bool) -> &'static str {
 
 /// Ratios to safe Rust are the van's time to Rust's; those to the literal rule say how much faster the van is.
 fn comparisons() {
-    println!("{:32} {:12} {:>12} {:>14} {:>9} {:>9}", "", "", "van", "the other", "ratio of", "median");
-    println!("{:32} {:12} {:>12} {:>14} {:>9} {:>9}  target", "marking", "beside", "us", "us", "medians", "ratio");
+    heading("marking", "van");
     for (name, road) in roads() {
-        let times = markings(&road, quick::mark_road_file);
+        let times = markings(&road, by_the_van, quick::mark_road_file);
         let target = format!("at most {TIMES_RUST}: {}", verdict(times.ratio <= TIMES_RUST));
-        row(name, "safe Rust", &times, [times.van / times.other, times.ratio], &target);
+        row(name, "safe Rust", &times, [times.ours / times.other, times.ratio], &target);
     }
     for (name, road) in roads() {
-        let times = markings(&road, quick::mark_road_file_literally);
+        let times = markings(&road, by_the_van, quick::mark_road_file_literally);
         let faster = 1.0 / times.ratio;
         let target = format!("at least {TIMES_FASTER}: {}", verdict(faster >= TIMES_FASTER));
-        let target = if road.length == 8_000 { &target } else { "" };
-        row(name, "literal rule", &times, [times.other / times.van, faster], target);
+        let target = if road.length == SHORT { &target } else { "" };
+        row(name, "literal rule", &times, [times.other / times.ours, faster], target);
     }
     for (name, times) in [("crest length", crest_lengths()), ("level distance", level_distances())] {
-        row(name, "safe Rust", &times, [times.van / times.other, times.ratio], "");
+        row(name, "safe Rust", &times, [times.ours / times.other, times.ratio], "");
     }
+}
+
+/// The first metres of a road.
+fn first(length: u32, road: &Road) -> Road {
+    let curves = road.curves.iter().filter(|curve| curve.end() <= length.into());
+    Road { length, curves: curves.copied().collect(), ..road.clone() }
+}
+
+/// The library's marking: of roads of 100,000 m beside their first 8,000 m, and of a short road beside the van's marking, whose
+/// list of heights is shorter.
+fn long_markings() {
+    heading("marking", "library");
+    for (name, road) in [("100,000 m level", level(LONG, 130)), ("100,000 m, 32 crests", crests(LONG))] {
+        let times = roads_beside((&road, by_the_library), (&first(SHORT, &road), by_the_library));
+        let target = format!("at most {TIMES_SHORT}: {}", verdict(times.ratio <= TIMES_SHORT));
+        row(name, "its first 8,000 m", &times, [times.ours / times.other, times.ratio], &target);
+        let times = markings(&road, by_the_library, quick::mark_file);
+        row(name, "safe Rust", &times, [times.ours / times.other, times.ratio], "");
+    }
+    let times = markings(&one_crest(), by_the_library, by_the_van);
+    row("300 m, one crest", "van", &times, [times.ours / times.other, times.ratio], "");
 }
 
 /// How the marking of a level road grows, on both sides in microseconds.
@@ -243,8 +310,8 @@ fn growth(roads: impl Iterator<Item = Road>) {
     for road in roads {
         let required = required_distance(road.speed.into(), road.purpose.into(), marking_grade(&road));
         let required = required.expect("the speed is accepted");
-        let Times { van, other, .. } = markings(&road, quick::mark_road_file);
-        println!("{:8} {:6} {required:12} {van:12.1} {other:12.1}", road.length, road.speed);
+        let Times { ours, other, .. } = markings(&road, by_the_van, quick::mark_road_file);
+        println!("{:8} {:6} {required:12} {ours:12.1} {other:12.1}", road.length, road.speed);
     }
 }
 
@@ -315,9 +382,9 @@ impl Drop for Files {
     }
 }
 
-/// Long roads of all kinds, each with a speed and a purpose out of these.
-fn long_roads(speeds: RangeInclusive<u32>, purposes: RangeInclusive<u32>) -> impl Iterator<Item = Road> {
-    let kinds: Vec<Road> = roads().into_iter().map(|(_, road)| road).filter(|road| road.length == 8_000).collect();
+/// Roads of 8,000 m of all kinds, each with a speed and a purpose out of these.
+fn listed_roads(speeds: RangeInclusive<u32>, purposes: RangeInclusive<u32>) -> impl Iterator<Item = Road> {
+    let kinds: Vec<Road> = roads().into_iter().map(|(_, road)| road).filter(|road| road.length == SHORT).collect();
     let mut random = Random::new(2);
     kinds.into_iter().cycle().map(move |road| Road {
         speed: random.within(speeds.clone()) as u8,
@@ -336,7 +403,7 @@ fn listings() -> Result<(), Box<dyn error::Error>> {
         ("130 km/h, decision E", 130..=130, 5..=5, Some(TIMES_MARKING)),
         ("20 km/h, decision A", 20..=20, 1..=1, None),
     ] {
-        let files = Files::write(long_roads(speeds, purposes))?;
+        let files = Files::write(listed_roads(speeds, purposes))?;
         files.check()?;
         let (mut listing, mut marking) = (f64::MAX, f64::MAX);
         for _ in 0..LISTING_ROUNDS {
@@ -355,12 +422,16 @@ fn main() -> Result<(), Box<dyn error::Error>> {
     let load = load.split(' ').next().unwrap_or_default();
     println!("Medians of {ROUNDS} rounds; both sides built for release; load of the machine {load}\n");
     comparisons();
+    println!("\nThe library's marking, of roads that the van does not take and of one that it does");
+    long_markings();
     println!("\nMarking a level road, by its length");
     growth([1_000, 2_000, 4_000, 8_000].into_iter().map(|length| level(length, 130)));
     println!("\nMarking a level road, by the required distance");
-    growth([20, 60, 90, 130].into_iter().map(|speed| level(8_000, speed)));
+    growth([20, 60, 90, 130].into_iter().map(|speed| level(SHORT, speed)));
     println!(
         "\nListing {LISTED} roads of 8,000 m in one call, beside their marking: the best of {LISTING_ROUNDS} rounds"
     );
-    listings()
+    listings()?;
+    println!("\nThe stack that an operation takes");
+    stack::table(&crests(SHORT), &crests(LONG))
 }
