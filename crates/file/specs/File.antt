@@ -33,7 +33,8 @@ stationBytes version = cond (eqb version secondVersion) 4 2
 abbrev pub recordLength : ℕ → ℕ
 recordLength version = stationBytes version + 4
 
--- the length of a file with n curves: 14 bytes and a station of the header, and the records
+-- the length of a file with n curves: of the header a station and 14 bytes (letters 3, version 2, speed 1, purpose 1, start height 4, first
+-- grade 2, number of curves 1), and the records
 abbrev pub fileLength : ℕ → ℕ → ℕ
 fileLength version n = stationBytes version + 14 + recordLength version * n
 
@@ -57,8 +58,8 @@ curveAt version s k =
     let at = fileLength version k in
     record { pvi = numberAt s at w; length = numberAt s (at + w) 2; «grade_out» = toZ w16 (numberAt s (at + w + 2) 2) }
 
--- speed at byte 5, purpose at 6, N at 7, and behind it start height, first grade and the number of curves n, then n records; the
--- other curve places are zero
+-- version at byte 3, speed at 5, purpose at 6, N at 7, and behind its w bytes start height, first grade and the number of curves n, then n
+-- records; the other curve places are zero
 unfoldable pub roadIn : List ℕ → Road
 roadIn s = let w = stationBytes (versionIn s) in record {
   version = versionIn s;

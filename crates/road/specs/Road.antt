@@ -76,7 +76,7 @@ numbersVerdict most r =
     (fault (outsideℤ lowestStart highestStart (r .«start_height»)) startRefused
     (fault (gradeOutside (r .«first_grade»)) gradeRefused Accepted))))
 
--- 3, 4, then the road's numbers, then its curves; the first comes after the road's start
+-- a road, where none over `most` metres is taken: 3, 4, then its numbers, then its curves, the first of which comes after the road's start
 unfoldable pub verdictUpTo : ℕ → Road → Verdict
 verdictUpTo most r =
     fault (outside firstVersion secondVersion (r .version)) versionRefused

@@ -29,11 +29,7 @@ pub extern "C" fn vcp_file_distance(file: &[u8], purpose: u32) -> i64
     }
     let road = read.road;
     let grade = road_distances::road_grade(road);
-    terms::signed_answer(distance::required_distance(
-        road.speed as u32,
-        purpose,
-        grade,
-    ))
+    terms::signed_answer(distance::required_distance(road.speed as u32, purpose, grade))
 }
 
 // The stations of a road that the lister, the preview and the van's marking take.
