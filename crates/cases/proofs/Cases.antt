@@ -18,10 +18,10 @@ use Rattle.marks.specs.Marks.{markOf}
 use Rattle.change.specs.Change.{withLength, changeVerdict}
 use Rattle.preview.specs.Preview.{differing, previewVerdict, previewAnswer, previewFirst, previewSecond}
 use Rattle.passing.specs.Passing.{passingMark, passingAnswer, passingList}
-use Rattle.cases.specs.Cases.{StarredCases, curve, roadFrom, roadOfVersion, roadFor, roadOf, levelRoad, highRoad, valleyFile, otherFile, crestRoad, breaksRoad, heightAt, crestAndSag, shortCrest, leastAdequate, manoeuvre, passingOver}
+use Rattle.cases.specs.Cases.{StarredCases, curve, roadFrom, roadOfVersion, roadFor, roadOf, levelRoad, highRoad, longCrest, valleyFile, otherFile, crestRoad, breaksRoad, heightAt, crestAndSag, shortCrest, leastAdequate, manoeuvre, passingOver}
 
 pub starred-cases : StarredCases
-unfolding requiredDistance metresFor levelMetres gradedMetres levelParts gradedParts upToFive passingDistance passingParts initialParts leftLaneParts oncomingParts manoeuvreOutside manoeuvre crestLength sagLength lengthVerdict leastAdequate leastEven longEnough reachesMinimum adequate withinRoot verdictUpTo numbersVerdict curvesVerdict curveVerdict heightAt ownHeights heightsList heightsAnswer filled storedHeight exactHeight exactFrom floorDiv breaksRoad crestAndSag crestRoad roadOf roadFor roadOfVersion roadFrom levelRoad highRoad curve valleyFile otherFile numberAt stationBytes curveAt roadIn headerVerdict readVerdictUpTo changeVerdict withLength shortCrest previewAnswer previewFirst previewSecond previewVerdict differing roadDistances leastGrade distancesFor markOf sightVerdict lookVerdict sightAnswer availableSight sightFrom reach seen everyBetween every clears passingOver passingList passingAnswer passingVerdict passingMark
+unfolding requiredDistance metresFor levelMetres gradedMetres levelParts gradedParts upToFive passingDistance passingParts initialParts leftLaneParts oncomingParts manoeuvreOutside manoeuvre crestLength sagLength lengthVerdict leastAdequate leastEven longEnough reachesMinimum adequate withinRoot verdictUpTo numbersVerdict curvesVerdict curveVerdict heightAt ownHeights heightsList heightsAnswer filled storedHeight exactHeight exactFrom floorDiv breaksRoad crestAndSag crestRoad roadOf roadFor roadOfVersion roadFrom levelRoad highRoad longCrest curve valleyFile otherFile numberAt stationBytes curveAt roadIn headerVerdict readVerdictUpTo changeVerdict withLength shortCrest previewAnswer previewFirst previewSecond previewVerdict differing roadDistances leastGrade distancesFor markOf sightVerdict lookVerdict sightAnswer availableSight sightFrom reach seen everyBetween every clears passingOver passingList passingAnswer passingVerdict passingMark
 starred-cases = record {
   distances = (refl, refl, refl, refl, refl, refl);
   passing = (refl, refl, refl, refl);
@@ -32,7 +32,7 @@ starred-cases = record {
   breaks = (refl, refl, refl, refl, refl);
   versions = (refl, refl, refl, refl, refl, refl, refl, refl, refl, refl, refl, refl);
   files = (refl, refl, refl, refl, refl, refl, refl, refl, refl, refl, refl, refl);
-  changes = (refl, refl, refl, refl, refl, refl, refl, refl);
+  changes = (refl, refl, refl, refl, refl, refl, refl, refl, refl, refl);
   previews = (refl, refl, refl, refl, refl, refl);
   sights = (refl, refl, refl);
   passing-marks = (refl, refl, refl);

@@ -5,7 +5,7 @@ use mathlib.Core.List.{List, [], _∷_, _++_}
 use Prim.Native.Nat.{ℕ, _*_, _-_, _/_}
 use lib.IntN.{ℤ, pos, negℤ}
 use lib.ListN.{length, take, getD, replicate}
-use Rattle.terms.specs.Limits.{firstVersion, secondVersion, stoppingPurpose, greatestCurveCount, eyeHeight, objectHeight}
+use Rattle.terms.specs.Limits.{firstVersion, secondVersion, stoppingPurpose, greatestShortRoad, greatestLongRoad, greatestCurveCount, eyeHeight, objectHeight}
 use Rattle.terms.specs.Refusals.{shortFileRefused, versionRefused, totalRefused, speedRefused, roadLengthRefused, startRefused, curveOrderRefused, roomRefused, sharpBreakRefused, noCurveRefused}
 use Rattle.terms.specs.declared.Answer.{Answer}
 use Rattle.terms.specs.declared.Answer.the-variants.{Number, Refused}
@@ -92,6 +92,10 @@ valleyFile =
 unfoldable pub otherFile : ℕ → List ℕ
 otherFile version = letters ++ (version ∷ []) ++ replicate 12 0
 
+-- of version 2, N 8,001, first grade 300, a crest of 20 m with PVI 50 and grade −300
+unfoldable pub longCrest : Road
+longCrest = roadOfVersion secondVersion 80 8001 (pos 300) (curve 50 20 (negℤ (pos 300)) ∷ [])
+
 -- the least even adequate length of a crest with this drop and sight distance, whatever the speed is: e = 10,800 and o = 6,000
 unfoldable pub leastAdequate : ℕ → ℕ → Answer
 leastAdequate a s = leastLength (crestAdequate a s eyeHeight objectHeight)
@@ -171,8 +175,8 @@ pub record StarredCases : Type 0 where
       × (shortRoadVerdict (levelRoad 2 19 8001) ≡ Fault speedRefused)
       × (shortRoadVerdict (highRoad 2 8001) ≡ Fault roadLengthRefused)
       × (roadVerdict (highRoad 2 8001) ≡ Fault startRefused)
-  -- Road file: one of version 2, its road's numbers and two of its heights; its header cut short by a byte and by three; the lengths of
-  -- files; a version that is neither, also where a byte of the header is missing
+  -- Road file: one of version 2, its road's numbers and two of its heights; its header cut short by a byte and by three, and its record
+  -- cut off; the lengths of files; a version that is neither, also where a byte of the header is missing
   pub files :
       (readVerdict valleyFile ≡ Accepted)
       × (shortReadVerdict valleyFile ≡ Fault roadLengthRefused)
@@ -187,16 +191,19 @@ pub record StarredCases : Type 0 where
       × (readVerdict (otherFile 3) ≡ Fault versionRefused)
       × (readVerdict (take 15 (otherFile 3)) ≡ Fault shortFileRefused)
   -- Trying another length: a longer curve; places beyond the one curve, also with an odd length; no length left; up to the sag, and into
-  -- it; and a road that is refused as it is, at a place beyond its curve, and where the length would mend it
+  -- it; a road that is refused as it is, at a place beyond its curve, and where the length would mend it; and a place beyond the curve of a
+  -- longer road, where none over 8,000 m is taken and where it is
   pub changes :
-      (changeVerdict (crestRoad 20) 0 40 ≡ Accepted)
-      × (changeVerdict (crestRoad 20) 1 40 ≡ Fault noCurveRefused)
-      × (changeVerdict (crestRoad 20) 31 41 ≡ Fault noCurveRefused)
-      × (changeVerdict (crestRoad 20) 0 0 ≡ Fault sharpBreakRefused)
-      × (changeVerdict crestAndSag 0 40 ≡ Accepted)
-      × (changeVerdict crestAndSag 0 42 ≡ Fault curveOrderRefused)
-      × (changeVerdict (crestRoad 0) 1 20 ≡ Fault sharpBreakRefused)
-      × (changeVerdict (crestRoad 0) 0 20 ≡ Fault sharpBreakRefused)
+      (changeVerdict greatestLongRoad (crestRoad 20) 0 40 ≡ Accepted)
+      × (changeVerdict greatestLongRoad (crestRoad 20) 1 40 ≡ Fault noCurveRefused)
+      × (changeVerdict greatestLongRoad (crestRoad 20) 31 41 ≡ Fault noCurveRefused)
+      × (changeVerdict greatestLongRoad (crestRoad 20) 0 0 ≡ Fault sharpBreakRefused)
+      × (changeVerdict greatestLongRoad crestAndSag 0 40 ≡ Accepted)
+      × (changeVerdict greatestLongRoad crestAndSag 0 42 ≡ Fault curveOrderRefused)
+      × (changeVerdict greatestLongRoad (crestRoad 0) 1 20 ≡ Fault sharpBreakRefused)
+      × (changeVerdict greatestLongRoad (crestRoad 0) 0 20 ≡ Fault sharpBreakRefused)
+      × (changeVerdict greatestShortRoad longCrest 1 40 ≡ Fault roadLengthRefused)
+      × (changeVerdict greatestLongRoad longCrest 1 40 ≡ Fault noCurveRefused)
   -- Trying another length: at how many of 41 stations the marks differ; a second and a first list of 40 places, and that the other list
   -- stays; and a place beyond the curve, where both lists are too short
   pub previews :

@@ -9,13 +9,13 @@ use lib.Dec.{leb, ltb, eqb, nltb→le, nleb→lt}
 use lib.ListN.{length, getD, set}
 use lib.Seq.{getD-take, set-getD, take-set-lt, length-take-le}
 use Rattle.terms.specs.Answers.{outside, gradeOutside}
-use Rattle.terms.specs.Limits.{firstVersion, secondVersion, greatestLongRoad, greatestCurve, greatestCurveCount}
+use Rattle.terms.specs.Limits.{firstVersion, secondVersion, greatestCurve, greatestCurveCount}
 use Rattle.terms.specs.Refusals.{versionRefused, curveCountRefused, gradeRefused, curveLengthRefused, noCurveRefused}
 use Rattle.terms.specs.declared.Verdict.the-variants.{Accepted, Fault}
 use Rattle.terms.proofs.Laws.{grade-inside, grade-not-outside, fault-not-accepted, fault-accepted, first-fault-accepted, inside}
 use Rattle.road.specs.declared.Curve.{Curve}
 use Rattle.road.specs.declared.Road.{Road}
-use Rattle.road.specs.Road.{noCurve, startOf, curvesOf, curveVerdict, curvesVerdict, numbersVerdict, verdictUpTo, roadVerdict}
+use Rattle.road.specs.Road.{noCurve, startOf, curvesOf, curveVerdict, curvesVerdict, numbersVerdict, verdictUpTo}
 use Rattle.change.specs.Change.{ofLength, withLength, changeVerdict}
 
 -- ---- the curves in use of the changed road
@@ -57,36 +57,36 @@ numbers-stay : (most : ℕ) (r : Road) (k l : ℕ) → numbersVerdict most (with
 unfolding numbersVerdict withLength
 numbers-stay most r k l = refl
 
-pub changed-too-long : (r : Road) → length (r .curves) ≡ greatestCurveCount → (k l : ℕ) → roadVerdict r ≡ Accepted → k < r .count →
-    greatestCurve < l → roadVerdict (withLength r k l) ≡ Fault curveLengthRefused
+pub changed-too-long : (most : ℕ) (r : Road) → length (r .curves) ≡ greatestCurveCount → (k l : ℕ) → verdictUpTo most r ≡ Accepted → k < r .count →
+    greatestCurve < l → verdictUpTo most (withLength r k l) ≡ Fault curveLengthRefused
 unfolding verdictUpTo withLength
-changed-too-long r places k l e h over =
+changed-too-long most r places k l e h over =
     let version = fault-accepted (outside firstVersion secondVersion (r .version)) versionRefused _ e in
     let which = inside firstVersion secondVersion (r .version) (version .0) in
     let count = fault-accepted (ltb greatestCurveCount (r .count)) curveCountRefused _ (version .1) in
     let few = nltb→le greatestCurveCount (r .count) (count .0) in
-    let both = first-fault-accepted (numbersVerdict greatestLongRoad r) _ (count .1) in
+    let both = first-fault-accepted (numbersVerdict most r) _ (count .1) in
     let used = length-take-le (r .count) (r .curves) (omega arith) in
-    rw (le-ltb (r .version) firstVersion (which .0), le-ltb secondVersion (r .version) (which .1), le-ltb greatestCurveCount (r .count) few, numbers-stay greatestLongRoad r k l ∙ both .0, changed-curves r k l h)
+    rw (le-ltb (r .version) firstVersion (which .0), le-ltb secondVersion (r .version) (which .1), le-ltb greatestCurveCount (r .count) few, numbers-stay most r k l ∙ both .0, changed-curves r k l h)
     (long-curves (r .length) (startOf r) (curvesOf r) k l over (omega arith) (both .1))
 
 -- ---- a road that is refused as it is
-pub refused-road : (r : Road) (k l : ℕ) {n : ℕ} → roadVerdict r ≡ Fault n → changeVerdict r k l ≡ Fault n
+pub refused-road : (most : ℕ) (r : Road) (k l : ℕ) {n : ℕ} → verdictUpTo most r ≡ Fault n → changeVerdict most r k l ≡ Fault n
 unfolding changeVerdict
-refused-road r k l e = rw e refl
+refused-road most r k l e = rw e refl
 
 -- ---- what an accepted change says
-pub accepted-change : (r : Road) (k l : ℕ) → changeVerdict r k l ≡ Accepted →
-    (roadVerdict r ≡ Accepted) × (k < r .count) × (roadVerdict (withLength r k l) ≡ Accepted)
+pub accepted-change : (most : ℕ) (r : Road) (k l : ℕ) → changeVerdict most r k l ≡ Accepted →
+    (verdictUpTo most r ≡ Accepted) × (k < r .count) × (verdictUpTo most (withLength r k l) ≡ Accepted)
 unfolding changeVerdict
-accepted-change r k l e =
-    let both = first-fault-accepted (roadVerdict r) _ e in
+accepted-change most r k l e =
+    let both = first-fault-accepted (verdictUpTo most r) _ e in
     let place = fault-accepted (leb (r .count) k) noCurveRefused _ (both .1) in
     (both .0, nleb→lt (r .count) k (place .0), place .1)
 
 -- its length is one that a curve may have
-pub accepted-length : (r : Road) → length (r .curves) ≡ greatestCurveCount → (k l : ℕ) → changeVerdict r k l ≡ Accepted → l ≤ greatestCurve
-accepted-length r places k l e =
-    let a = accepted-change r k l e in
-    let not-over : greatestCurve < l → ⊥ = λ over. fault-not-accepted curveLengthRefused (sym (changed-too-long r places k l (a .0) (a .1) over) ∙ a .2) in
+pub accepted-length : (most : ℕ) (r : Road) → length (r .curves) ≡ greatestCurveCount → (k l : ℕ) → changeVerdict most r k l ≡ Accepted → l ≤ greatestCurve
+accepted-length most r places k l e =
+    let a = accepted-change most r k l e in
+    let not-over : greatestCurve < l → ⊥ = λ over. fault-not-accepted curveLengthRefused (sym (changed-too-long most r places k l (a .0) (a .1) over) ∙ a .2) in
     omega (arith, not-over)

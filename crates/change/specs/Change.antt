@@ -7,7 +7,7 @@ use Rattle.terms.specs.Refusals.{noCurveRefused}
 use Rattle.terms.specs.declared.Verdict.{Verdict}
 use Rattle.road.specs.declared.Curve.{Curve}
 use Rattle.road.specs.declared.Road.{Road}
-use Rattle.road.specs.Road.{noCurve, roadVerdict}
+use Rattle.road.specs.Road.{noCurve, verdictUpTo}
 
 -- a curve with another length; its PVI and its grade out stay
 abbrev pub ofLength : ℕ → Curve → Curve
@@ -26,9 +26,10 @@ withLength r k l = record {
   curves = set (r .curves) k (ofLength l (getD (r .curves) k noCurve));
 }
 
--- the refusals of the road as it is, then 26 for a place beyond its last curve, then the refusals of the changed road
-unfoldable pub changeVerdict : Road → ℕ → ℕ → Verdict
-changeVerdict r k l =
-    firstFault (roadVerdict r)
+-- the refusals of the road as it is, where none over `most` metres is taken, then 26 for a place beyond its last curve, then the refusals
+-- of the changed road
+unfoldable pub changeVerdict : ℕ → Road → ℕ → ℕ → Verdict
+changeVerdict most r k l =
+    firstFault (verdictUpTo most r)
     (fault (leb (r .count) k) noCurveRefused
-    (roadVerdict (withLength r k l)))
+    (verdictUpTo most (withLength r k l)))

@@ -19,10 +19,10 @@ pub fn with_length(road: Road, place: u32, length: u16) -> Road
 
 // Whether a road is accepted, has a curve at the place, and is accepted with that curve's new length. A length over 2,000 is refused
 // before it is narrowed.
-pub fn change_verdict(road: Road, place: u32, length: u32) -> Verdict
-    ensures { λ r. ⌜ r ≡ changeVerdict road place length ⌝ }
+pub fn change_verdict(road: Road, most: u32, place: u32, length: u32) -> Verdict
+    ensures { λ r. ⌜ r ≡ changeVerdict most road place length ⌝ }
 {
-    let v = road::verdict(road, terms::GREATEST_LONG_ROAD);
+    let v = road::verdict(road, most);
     if let Verdict::Fault(_) = v {
         return v;
     }
@@ -33,5 +33,5 @@ pub fn change_verdict(road: Road, place: u32, length: u32) -> Verdict
         return Verdict::Fault(terms::CURVE_LENGTH_REFUSED);
     }
     let changed = with_length(road, place, length as u16);
-    road::verdict(changed, terms::GREATEST_LONG_ROAD)
+    road::verdict(changed, most)
 }

@@ -1,4 +1,4 @@
--- A file longer than any road file is refused, by the first bytes of its header alone. So the programs need to read no more of a file
+-- A file longer than any road file is refused, by its header alone. So the programs need to read no more of a file
 -- than one byte beyond the longest: what is read of that front is what is read of the whole.
 use mathlib.Core.Path.{_≡_, refl, sym, ap, _∙_}
 use mathlib.Core.Bool.{Bool, true, false, cond, not, _||_}
@@ -6,7 +6,7 @@ use mathlib.Core.List.{List}
 use Prim.Native.Nat.{ℕ, _+_, _≤_, _<_}
 use native.Mathlib.Omega.{arith}
 use borrow.Author.Tests.{le-ltb, ltb-false, ne-eqb}
-use lib.Dec.{ltb, eqb}
+use lib.Dec.{ltb}
 use lib.ListN.{length, take}
 use lib.Seq.{getD-take, length-take-le}
 use Rattle.terms.specs.Answers.{outside, fault, firstFault}

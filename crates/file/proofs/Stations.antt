@@ -1,6 +1,6 @@
 -- Laws of the layout: a station has 2 to 4 bytes, the header of version 1 is the shorter one, and a file grows with its records, up to the
 -- longest.
-use Prim.Native.Nat.{ℕ, _+_, _*_, _≤_}
+use Prim.Native.Nat.{ℕ, _*_, _≤_}
 use mathlib.Core.Bool.{Bool, true, false, cond}
 use mathlib.Core.Path.{_≡_, refl}
 use native.Mathlib.Nat.{mul-le-mul, le-refl}

@@ -33,8 +33,8 @@ stationBytes version = cond (eqb version secondVersion) 4 2
 abbrev pub recordLength : ℕ → ℕ
 recordLength version = stationBytes version + 4
 
--- the length of a file with n curves: of the header a station and 14 bytes (letters 3, version 2, speed 1, purpose 1, start height 4, first
--- grade 2, number of curves 1), and the records
+-- the length of a file with n curves: of the header a station and 14 bytes (3 for the letters, 2 for the version, 1 each for speed and
+-- purpose, 4 for the start height, 2 for the first grade, 1 for the number of curves), and the records
 abbrev pub fileLength : ℕ → ℕ → ℕ
 fileLength version n = stationBytes version + 14 + recordLength version * n
 

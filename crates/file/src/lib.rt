@@ -33,7 +33,7 @@ const SHORT_STATION_BYTES: usize = 2;
 
 const LONG_STATION_BYTES: usize = 4;
 
-// Where these stand behind the bytes of N.
+// Where these would stand if N had no bytes: those of N come on top.
 const START_HEIGHT_AT: usize = 7;
 
 const FIRST_GRADE_AT: usize = 11;

@@ -65,7 +65,7 @@ unfolding line
 line-at-most word numbers m h = simp length-append (omega (arith, joined-at-most (λ k. item (getD numbers k 0)) m (length numbers) h))
 
 first-at-most : (version speed : ℕ) (d : Distances) → version < 1000 → speed < 1000 → (d .stopping < 1000) × (d .decision < 1000) → length (firstLine version speed d) ≤ 22
-first-at-most version speed d first h small =
+first-at-most version speed d v h small =
     let numbers = version ∷ speed ∷ d .stopping ∷ d .decision ∷ [] in
     let each : (k : ℕ) → length (item (getD numbers k 0)) ≤ 4 =
     λ k. small-item-at-most (getD numbers k 0) (each-at (λ (x : ℕ). x < 1000) numbers k 0 (omega arith) (λ _. omega arith)) in

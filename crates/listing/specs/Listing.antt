@@ -95,7 +95,7 @@ textFor (Fault k) r = refusedLine k
 abbrev pub textOf : ReadRoad → List ℕ
 textOf read = textFor (read .verdict) (read .road)
 
--- the listing of a road file, which no road over 8,000 m has
+-- the listing of a road file, where no road over 8,000 m is taken
 unfoldable pub listing : List ℕ → List ℕ
 listing file = textOf (readUpTo greatestShortRoad file)
 

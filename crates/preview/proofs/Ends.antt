@@ -1,9 +1,9 @@
--- How a preview ends, by the verdicts on the road and on the change and the room in the lists: refused by the fault of either, refused
--- 14, or with both lists marked and their marks compared.
+-- How a preview ends, by the verdict on the change and the room in the lists: refused by the change's fault, refused 14, or with both
+-- lists marked and their marks compared.
 use Prim.Native.Nat.{ℕ, _+_, _≤_, _<_}
 use mathlib.Core.Bool.{Bool, true, false, not, _||_}
 use mathlib.Core.List.{List}
-use mathlib.Core.Path.{_≡_, refl, sym, ap, subst, _∙_}
+use mathlib.Core.Path.{_≡_, refl, sym, ap, subst}
 use native.Mathlib.Omega.{arith}
 use mir.Facts.{or-no}
 use borrow.Author.Tests.{le-ltb}
@@ -11,7 +11,7 @@ use lib.Dec.{T, nltb→le}
 use lib.ListN.{length, getD}
 use Rattle.whole.proofs.Fill.{filled-at}
 use Rattle.terms.specs.Answers.{fault}
-use Rattle.terms.specs.Limits.{greatestShortRoad, greatestLongRoad}
+use Rattle.terms.specs.Limits.{greatestShortRoad}
 use Rattle.terms.specs.Refusals.{roomRefused}
 use Rattle.terms.specs.declared.Answer.{Answer}
 use Rattle.terms.specs.declared.Answer.the-variants.{Number, Refused}
@@ -19,15 +19,13 @@ use Rattle.terms.specs.declared.Verdict.the-variants.{Accepted, Fault}
 use Rattle.terms.proofs.Laws.{room-number}
 use Rattle.road.specs.declared.Road.{Road}
 use Rattle.road.specs.Road.{shortRoadVerdict}
-use Rattle.road.proofs.Accepted.{accepted-road}
-use Rattle.road.proofs.UpTo.{verdict-within}
 use Rattle.road_marks.specs.RoadMarks.{roadMark, markRoadAnswer, markRoadList}
 use Rattle.change.specs.Change.{withLength, changeVerdict}
 use Rattle.change.proofs.Laws.{accepted-change}
 use Rattle.preview.specs.Preview.{differing, tooShort, previewVerdict, previewAnswer, previewFirst, previewSecond}
 use Rattle.preview.proofs.Differing.{differing-cong}
 
--- what marking a road that is taken leaves at each station of a list with room for it
+-- what marking an accepted road leaves at each station of a list with room for it
 marked-at : (r : Road) (list : List ℕ) → shortRoadVerdict r ≡ Accepted → r .length + 1 ≤ length list → (i : ℕ) → i < r .length + 1 →
     getD (markRoadList greatestShortRoad r list) i 0 ≡ roadMark r i
 unfolding markRoadList markRoadAnswer
@@ -59,30 +57,19 @@ module _ (r : Road) (k l : ℕ) (first second : List ℕ) where
   abbrev pub Ends : Answer → List ℕ → List ℕ → Type 0
   Ends a out out′ = (a ≡ previewAnswer r k l first second) × ((out ≡ previewFirst r k l first second) × (out′ ≡ previewSecond r k l first second))
 
-  pub ends-road : {n : ℕ} → shortRoadVerdict r ≡ Fault n → Ends (Refused n) first second
+  pub ends-fault : {n : ℕ} → changeVerdict greatestShortRoad r k l ≡ Fault n → Ends (Refused n) first second
   unfolding previewAnswer previewFirst previewSecond previewVerdict
-  ends-road e = rw e (refl, (refl, refl))
+  ends-fault e = rw e (refl, (refl, refl))
 
-  pub ends-fault : {n : ℕ} → shortRoadVerdict r ≡ Accepted → changeVerdict r k l ≡ Fault n → Ends (Refused n) first second
+  pub ends-no-room : changeVerdict greatestShortRoad r k l ≡ Accepted → tooShort r first || tooShort r second ≡ true → Ends (Refused roomRefused) first second
   unfolding previewAnswer previewFirst previewSecond previewVerdict
-  ends-fault taken e = rw (taken, e) (refl, (refl, refl))
+  ends-no-room e short = rw (e, no-room (tooShort r first) (tooShort r second) short) (refl, (refl, refl))
 
-  pub ends-no-room : shortRoadVerdict r ≡ Accepted → changeVerdict r k l ≡ Accepted → tooShort r first || tooShort r second ≡ true →
-      Ends (Refused roomRefused) first second
-  unfolding previewAnswer previewFirst previewSecond previewVerdict
-  ends-no-room taken e short = rw (taken, e, no-room (tooShort r first) (tooShort r second) short) (refl, (refl, refl))
-
-  -- the changed road is as long as the road, so it too is taken
-  changed-taken : shortRoadVerdict r ≡ Accepted → changeVerdict r k l ≡ Accepted → shortRoadVerdict changed ≡ Accepted
-  unfolding withLength
-  changed-taken taken e =
-      let short = accepted-road r taken .length-high in
-      verdict-within greatestShortRoad greatestLongRoad changed short (omega (arith, short)) ∙ accepted-change r k l e .2
-
-  pub ends-marked : shortRoadVerdict r ≡ Accepted → changeVerdict r k l ≡ Accepted → stations ≤ length first → stations ≤ length second →
+  pub ends-marked : changeVerdict greatestShortRoad r k l ≡ Accepted → stations ≤ length first → stations ≤ length second →
       let out = markRoadList greatestShortRoad r first in let out′ = markRoadList greatestShortRoad changed second in
       Ends (Number (differing (λ i. getD out i 0) (λ i. getD out′ i 0) stations)) out out′
   unfolding previewAnswer previewFirst previewSecond previewVerdict withLength
-  ends-marked taken e room room′ =
-      let same = differing-cong _ _ _ _ stations (marked-at r first taken room) (marked-at changed second (changed-taken taken e) room′) in
-      rw (taken, e, le-ltb (length first) stations room, le-ltb (length second) stations room′) (ap Number same, (refl, refl))
+  ends-marked e room room′ =
+      let a = accepted-change greatestShortRoad r k l e in
+      let same = differing-cong _ _ _ _ stations (marked-at r first (a .0) room) (marked-at changed second (a .2) room′) in
+      rw (e, le-ltb (length first) stations room, le-ltb (length second) stations room′) (ap Number same, (refl, refl))

@@ -12,7 +12,6 @@ use Rattle.terms.specs.declared.Answer.the-variants.{Number}
 use Rattle.terms.specs.declared.Verdict.{Verdict}
 use Rattle.terms.specs.declared.Verdict.the-variants.{Accepted}
 use Rattle.road.specs.declared.Road.{Road}
-use Rattle.road.specs.Road.{shortRoadVerdict}
 use Rattle.road_marks.specs.RoadMarks.{roadMark, markRoadList}
 use Rattle.change.specs.Change.{withLength, changeVerdict}
 
@@ -25,14 +24,13 @@ differing f g (suc n) = differing f g n + cond (eqb (f n) (g n)) 0 1
 abbrev pub tooShort : Road → List ℕ → Bool
 tooShort r list = ltb (length list) (r .length + 1)
 
--- of a road, a place, a new length and two lent lists: the refusals of a road where none over 8,000 m is taken, those of the change, then
--- 14 for the first list, then 14 for the second
+-- of a road, a place, a new length and two lent lists: the refusals of the change, where no road over 8,000 m is taken, then 14 for the
+-- first list, then 14 for the second
 unfoldable pub previewVerdict : Road → ℕ → ℕ → List ℕ → List ℕ → Verdict
 previewVerdict r k l first second =
-    firstFault (shortRoadVerdict r)
-    (firstFault (changeVerdict r k l)
+    firstFault (changeVerdict greatestShortRoad r k l)
     (fault (tooShort r first) roomRefused
-    (fault (tooShort r second) roomRefused Accepted)))
+    (fault (tooShort r second) roomRefused Accepted))
 
 -- at how many of the road's stations the marks of the changed road differ from its own
 unfoldable pub previewAnswer : Road → ℕ → ℕ → List ℕ → List ℕ → Answer

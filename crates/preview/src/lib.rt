@@ -29,11 +29,9 @@ pub fn preview(road: Road, place: u32, length: u32, first: &mut [u8], second: &m
     ensures first { λ _. ⌜ now (first .exit) ≡ previewFirst road place length (now (first .entry)) (now (second .entry)) ⌝ }
     ensures second { λ _. ⌜ now (second .exit) ≡ previewSecond road place length (now (first .entry)) (now (second .entry)) ⌝ }
 {
-    if let Verdict::Fault(number) = road::verdict(road, terms::GREATEST_SHORT_ROAD) {
+    let most = terms::GREATEST_SHORT_ROAD;
+    if let Verdict::Fault(number) = change::change_verdict(road, most, place, length) {
         return Answer::Refused(number);
-    }
-    if let Verdict::Fault(fault) = change::change_verdict(road, place, length) {
-        return Answer::Refused(fault);
     }
     let stations = road.length as usize + 1;
     if (first.len() < stations) | (second.len() < stations) {

@@ -3,6 +3,7 @@
 use Prim.Native.Nat.{ℕ}
 use mathlib.Core.List.{List}
 use Rattle.terms.specs.Answers.{firstFault, unless, keptUnless}
+use Rattle.terms.specs.Limits.{greatestLongRoad}
 use Rattle.terms.specs.declared.Answer.{Answer}
 use Rattle.terms.specs.declared.Verdict.{Verdict}
 use Rattle.file.specs.File.{roadIn}
@@ -13,7 +14,7 @@ use Rattle.preview.specs.Preview.{previewAnswer, previewFirst, previewSecond}
 
 -- a file whose road is to be changed: reading's refusals, then those of the change
 unfoldable pub changeFileVerdict : List ℕ → ℕ → ℕ → Verdict
-changeFileVerdict file k l = firstFault (readVerdict file) (changeVerdict (roadIn file) k l)
+changeFileVerdict file k l = firstFault (readVerdict file) (changeVerdict greatestLongRoad (roadIn file) k l)
 
 -- the file of the changed road, refused so, then as writing it is
 unfoldable pub changeFileAnswer : List ℕ → ℕ → ℕ → List ℕ → Answer

@@ -17,7 +17,12 @@ pub extern "C" fn vcp_change_length(file: &[u8], place: u32, length: u32, out: &
         return terms::signed_answer(Answer::Refused(number));
     }
     let road = read.road;
-    if let Verdict::Fault(fault) = change::change_verdict(road, place, length) {
+    if let Verdict::Fault(fault) = change::change_verdict(
+        road,
+        terms::GREATEST_LONG_ROAD,
+        place,
+        length,
+    ) {
         return terms::signed_answer(Answer::Refused(fault));
     }
     let changed = change::with_length(road, place, length as u16);

@@ -8,7 +8,7 @@ ghost use Rattle.road_exports.specs.RoadExports.{fileDistance, shortStat
 use terms::Answer;
 use terms::Verdict;
 
-// The van's function of another name takes no road over 8,000 m.
+// The van's `vcp_mark_road_file` takes no road over 8,000 m; this takes any that is accepted.
 #[no_mangle]
 pub extern "C" fn vcp_mark_file(file: &[u8], marks: &mut [u8]) -> i64
     ensures answer { λ r. ⌜ r ≡ signed (markFileAnswer greatestLongRoad (now (file .entry)) (now (marks .entry))) ⌝ }

@@ -1,7 +1,7 @@
 -- How marking a road ends past its verdict, and marking a file past reading's: by the road's fault, or as the room in the list says.
 use Prim.Native.Nat.{ℕ, _+_}
 use mathlib.Core.List.{List}
-use mathlib.Core.Path.{_≡_, refl, sym, ap, _∙_}
+use mathlib.Core.Path.{_≡_, refl}
 use Rattle.terms.specs.Answers.{roomFor, written}
 use Rattle.terms.specs.declared.Answer.{Answer}
 use Rattle.terms.specs.declared.Answer.the-variants.{Refused}

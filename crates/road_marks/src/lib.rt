@@ -1,22 +1,23 @@
-// docs/RULES.md, "Marks and zones": the marks of a road and of a road file, of any length or of 8,000 m at most.
-ghost use Prim.Native.Nat.{_+_, _<_};
+// docs/RULES.md, "Marks and zones": the marks of a road and of a road file, up to 100,000 m or up to 8,000.
+ghost use Prim.Native.Nat.{_≤_, _<_};
 ghost use mathlib.Core.Path.{_≡_};
 ghost use lib.ListN.{length};
-ghost use Rattle.terms.specs.Answers.{roomFor, written};
 ghost use Rattle.terms.specs.Limits.{greatestShortRoad, greatestLongRoad};
-ghost use Rattle.terms.specs.declared.Verdict.the-variants.{Accepted};
-ghost use Rattle.road.specs.Road.{roadVerdict};
-ghost use Rattle.road_marks.specs.RoadMarks.{roadMark, markRoadAnswer, markRoadList, markFileAnswer, markFileList};
+ghost use Rattle.road_marks.specs.RoadMarks.{markRoadAnswer, markRoadList, markFileAnswer, markFileList};
 use road::Road;
 use terms::Answer;
 use terms::Verdict;
 
-// Marks an accepted road by its own heights, which are filled into a list that has a place for each, and by its speed, purpose and grade.
-fn mark_over(road: Road, heights: &mut [i32], list: &mut [u8]) -> Answer
-    requires { ⌜ (roadVerdict road ≡ Accepted) × (road .length < length (now heights)) ⌝ }
-    ensures answer { λ r. ⌜ r ≡ roomFor (road .length + 1) (now (list .entry)) ⌝ }
-    ensures list { λ _. ⌜ now (list .exit) ≡ written (roadMark road) (roomFor (road .length + 1) (now (list .entry))) (now (list .entry)) ⌝ }
+// Marks a road where none over `most` metres is taken, by its own heights, which are filled into a list with a place for each, and by
+// its speed, purpose and grade.
+fn mark_up_to(road: Road, most: u32, heights: &mut [i32], list: &mut [u8]) -> Answer
+    requires { ⌜ (most ≤ greatestLongRoad) × (most < length (now heights)) ⌝ }
+    ensures answer { λ r. ⌜ r ≡ markRoadAnswer most road (now (list .entry)) ⌝ }
+    ensures list { λ _. ⌜ now (list .exit) ≡ markRoadList most road (now (list .entry)) ⌝ }
 {
+    if let Verdict::Fault(number) = road::verdict(road, most) {
+        return Answer::Refused(number);
+    }
     let grade = road_distances::road_grade(road);
     heights::heights(road, heights);
     let stations = road.length as usize + 1;
@@ -29,28 +30,36 @@ fn mark_over(road: Road, heights: &mut [i32], list: &mut [u8]) -> Answer
     )
 }
 
+// Marks a road file, where no road over `most` metres is taken.
+fn mark_file_up_to(file: &[u8], most: u32, heights: &mut [i32], list: &mut [u8]) -> Answer
+    requires { ⌜ (most ≤ greatestLongRoad) × (most < length (now heights)) ⌝ }
+    ensures answer { λ r. ⌜ r ≡ markFileAnswer most (now (file .entry)) (now (list .entry)) ⌝ }
+    ensures list { λ _. ⌜ now (list .exit) ≡ markFileList most (now (file .entry)) (now (list .entry)) ⌝ }
+{
+    let read = file::read(file, most);
+    let verdict = read.verdict;
+    if let Verdict::Fault(fault) = verdict {
+        return Answer::Refused(fault);
+    }
+    mark_up_to(read.road, most, heights, list)
+}
+
 // Marks a road.
 pub fn mark_road(road: Road, list: &mut [u8]) -> Answer
     ensures answer { λ r. ⌜ r ≡ markRoadAnswer greatestLongRoad road (now (list .entry)) ⌝ }
     ensures list { λ _. ⌜ now (list .exit) ≡ markRoadList greatestLongRoad road (now (list .entry)) ⌝ }
 {
-    if let Verdict::Fault(number) = road::verdict(road, terms::GREATEST_LONG_ROAD) {
-        return Answer::Refused(number);
-    }
     let mut heights = [0i32; terms::LONG_STATIONS];
-    mark_over(road, &mut heights, list)
+    mark_up_to(road, terms::GREATEST_LONG_ROAD, &mut heights, list)
 }
 
-// Marks a road of 8,000 m at most. Its list of heights is as much shorter, and is laid out in a tenth of the time.
+// Marks a road of 8,000 m at most, over a list of heights that is laid out in less than a tenth of the time.
 pub fn mark_short_road(road: Road, list: &mut [u8]) -> Answer
     ensures answer { λ r. ⌜ r ≡ markRoadAnswer greatestShortRoad road (now (list .entry)) ⌝ }
     ensures list { λ _. ⌜ now (list .exit) ≡ markRoadList greatestShortRoad road (now (list .entry)) ⌝ }
 {
-    if let Verdict::Fault(number) = road::verdict(road, terms::GREATEST_SHORT_ROAD) {
-        return Answer::Refused(number);
-    }
     let mut heights = [0i32; terms::SHORT_STATIONS];
-    mark_over(road, &mut heights, list)
+    mark_up_to(road, terms::GREATEST_SHORT_ROAD, &mut heights, list)
 }
 
 // Marks a road file.
@@ -58,12 +67,8 @@ pub fn mark_road_file(file: &[u8], list: &mut [u8]) -> Answer
     ensures answer { λ r. ⌜ r ≡ markFileAnswer greatestLongRoad (now (file .entry)) (now (list .entry)) ⌝ }
     ensures list { λ _. ⌜ now (list .exit) ≡ markFileList greatestLongRoad (now (file .entry)) (now (list .entry)) ⌝ }
 {
-    let read = file::read(file, terms::GREATEST_LONG_ROAD);
-    let verdict = read.verdict;
-    if let Verdict::Fault(fault) = verdict {
-        return Answer::Refused(fault);
-    }
-    mark_road(read.road, list)
+    let mut heights = [0i32; terms::LONG_STATIONS];
+    mark_file_up_to(file, terms::GREATEST_LONG_ROAD, &mut heights, list)
 }
 
 // Marks a road file whose road has 8,000 m at most.
@@ -71,10 +76,6 @@ pub fn mark_short_road_file(file: &[u8], list: &mut [u8]) -> Answer
     ensures answer { λ r. ⌜ r ≡ markFileAnswer greatestShortRoad (now (file .entry)) (now (list .entry)) ⌝ }
     ensures list { λ _. ⌜ now (list .exit) ≡ markFileList greatestShortRoad (now (file .entry)) (now (list .entry)) ⌝ }
 {
-    let read = file::read(file, terms::GREATEST_SHORT_ROAD);
-    let verdict = read.verdict;
-    if let Verdict::Fault(refusal) = verdict {
-        return Answer::Refused(refusal);
-    }
-    mark_short_road(read.road, list)
+    let mut heights = [0i32; terms::SHORT_STATIONS];
+    mark_file_up_to(file, terms::GREATEST_SHORT_ROAD, &mut heights, list)
 }

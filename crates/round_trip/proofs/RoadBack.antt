@@ -28,7 +28,7 @@ use Rattle.file.specs.File.{byteAt, numberAt, stationBytes, recordLength, fileL
 use Rattle.file.proofs.Sound.{SoundFile}
 use Rattle.file.proofs.Stations.{records-within}
 use Rattle.writing.specs.Bytes.{bytesOf, frontBytes, headerBytes, curveBytes, fileUpTo, fileBytes}
-use Rattle.writing.proofs.Bytes.{bytes-length, header-front-length, front-length}
+use Rattle.writing.proofs.Bytes.{bytes-length, front-length, file-up-to-length}
 use Rattle.round_trip.specs.RoundTrip.{SameRoad, cleared}
 use Rattle.round_trip.proofs.Numbers.{number-one, number-first, number-next, number-back}
 
@@ -56,7 +56,7 @@ module _ (r : Road) where
       (λ e. rw e)
       (λ lt.
       let fits = records-within v n m (omega arith) in
-      number-first (fileUpTo r m) _ k u (omega (arith, front-length r m, fits)) ∙ front-number n m k u (omega arith) h)
+      number-first (fileUpTo r m) _ k u (omega (arith, file-up-to-length r m, fits)) ∙ front-number n m k u (omega arith) h)
       (eq-or-lt-of-le l)
 
   -- a number of the header, and one of a record
@@ -73,7 +73,7 @@ module _ (r : Road) where
   unfolding fileUpTo
   record-number i j u n k p below l h e =
       front-number (suc i) (r .count) k u (omega arith) (omega arith)
-      ∙ rw (p, ← front-length r i) (number-next (fileUpTo r i) _ j u) ∙ e ∙ number-back u n h
+      ∙ rw (p, ← file-up-to-length r i) (number-next (fileUpTo r i) _ j u) ∙ e ∙ number-back u n h
 
   -- ---- N and the numbers of the header behind it, each behind the bytes of those before it
   abbrev front : List ℕ
@@ -89,7 +89,7 @@ module _ (r : Road) where
   many = bytesOf 1 (r .count)
 
   behind-start : length (frontBytes r ++ start) ≡ w + 11
-  behind-start = length-append (frontBytes r) start ∙ omega (arith, header-front-length r)
+  behind-start = length-append (frontBytes r) start ∙ omega (arith, front-length r)
 
   behind-grade : length (frontBytes r ++ start ++ grade) ≡ w + 13
   behind-grade = length-append (frontBytes r ++ start) grade ∙ omega (arith, behind-start)
@@ -106,7 +106,7 @@ module _ (r : Road) where
       ∙ between front (bytesOf w (r .length)) start 7 w refl (bytes-length w (r .length))
 
   start-there : numberAt (headerBytes r) (w + 7) 4 ≡ numberAt start 0 4
-  start-there = before-count (w + 7) 4 (omega arith) ∙ between (frontBytes r) start grade (w + 7) 4 (sym (header-front-length r)) refl
+  start-there = before-count (w + 7) 4 (omega arith) ∙ between (frontBytes r) start grade (w + 7) 4 (sym (front-length r)) refl
 
   grade-there : numberAt (headerBytes r) (w + 11) 2 ≡ numberAt grade 0 2
   unfolding headerBytes
@@ -238,7 +238,7 @@ module _ (r : Road) (holds : r .count ≤ length (r .curves)) (ok : roadVerdict 
       version-high = rw version-back (accepted-road r ok .version-high);
       count = rw count-back (accepted-road r ok .count);
       total =
-          front-length r (r .count) ∙ ap (fileLength (r .version)) (sym count-back)
+          file-up-to-length r (r .count) ∙ ap (fileLength (r .version)) (sym count-back)
           ∙ ap (λ u. fileLength u (curveCount (fileBytes r))) (sym version-back);
     };
     road = rw road-back (same-verdict ∙ ok);

@@ -17,7 +17,7 @@ use Rattle.file.specs.Reading.{readRoad}
 use Rattle.file.proofs.Sound.{accepted-file, sound-file, read-by, verdict-read}
 use Rattle.writing.specs.Bytes.{fileBytes}
 use Rattle.writing.specs.Writing.{writeAnswer, writeList}
-use Rattle.writing.proofs.Bytes.{front-length}
+use Rattle.writing.proofs.Bytes.{file-up-to-length}
 use Rattle.round_trip.specs.RoundTrip.{ReadThenWritten, WrittenThenRead}
 use Rattle.round_trip.proofs.FileBack.{file-back}
 use Rattle.round_trip.proofs.RoadBack.{cleared-same, road-back, road-sound}
@@ -29,14 +29,14 @@ module _ (r : Road) (buffer : List ℕ) (ok : roadVerdict r ≡ Accepted) (room 
 
   written-front : take (fileLength (r .version) (r .count)) (writeList r buffer) ≡ fileBytes r
   unfolding writeList
-  written-front = let size = front-length r (r .count) in rw written-answer (rw size at (take-filled 0 (fileBytes r) buffer (omega arith)))
+  written-front = let size = file-up-to-length r (r .count) in rw written-answer (rw size at (take-filled 0 (fileBytes r) buffer (omega arith)))
 
 pub read-then-written : ReadThenWritten
 read-then-written s buffer bytes ok room =
     let e = sym (verdict-read greatestLongRoad s (readRoad s) refl) ∙ ok in
     let f = accepted-file s e in
     let back = file-back s bytes (f .header) in
-    let size : fileLength (roadIn s .version) (roadIn s .count) ≡ length s = sym (front-length (roadIn s) (roadIn s .count)) ∙ ap length back in
+    let size : fileLength (roadIn s .version) (roadIn s .count) ≡ length s = sym (file-up-to-length (roadIn s) (roadIn s .count)) ∙ ap length back in
     let holds : fileLength (roadIn s .version) (roadIn s .count) ≤ length buffer = omega arith in
     let read = read-by greatestLongRoad s _ e in
     record {

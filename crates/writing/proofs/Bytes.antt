@@ -13,15 +13,15 @@ pub bytes-length : (w n : ℕ) → length (bytesOf w n) ≡ w
 bytes-length zero n = refl
 bytes-length (suc w) n = ap suc (bytes-length w (n / 256))
 
-pub record-length : (version : ℕ) (c : Curve) → length (curveBytes version c) ≡ recordLength version
+record-length : (version : ℕ) (c : Curve) → length (curveBytes version c) ≡ recordLength version
 unfolding curveBytes
 record-length version c = simp length-append (omega (arith, bytes-length (stationBytes version) (c .pvi)))
 
-pub header-front-length : (r : Road) → length (frontBytes r) ≡ stationBytes (r .version) + 7
-header-front-length r = omega (arith, bytes-length (stationBytes (r .version)) (r .length))
+pub front-length : (r : Road) → length (frontBytes r) ≡ stationBytes (r .version) + 7
+front-length r = omega (arith, bytes-length (stationBytes (r .version)) (r .length))
 
-pub front-length : (r : Road) (n : ℕ) → length (fileUpTo r n) ≡ fileLength (r .version) n
+pub file-up-to-length : (r : Road) (n : ℕ) → length (fileUpTo r n) ≡ fileLength (r .version) n
 unfolding fileUpTo headerBytes
-front-length r zero = simp length-append (omega (arith, bytes-length (stationBytes (r .version)) (r .length)))
-front-length r (suc n) =
-    simp length-append (omega (arith, front-length r n, record-length (r .version) (getD (r .curves) n noCurve)))
+file-up-to-length r zero = simp length-append (omega (arith, bytes-length (stationBytes (r .version)) (r .length)))
+file-up-to-length r (suc n) =
+    simp length-append (omega (arith, file-up-to-length r n, record-length (r .version) (getD (r .curves) n noCurve)))

@@ -8,7 +8,7 @@ use lib.Dec.{leb}
 use Rattle.terms.specs.Answers.{fault}
 use Rattle.terms.specs.Refusals.{noCurveRefused}
 use Rattle.terms.specs.declared.Verdict.the-variants.{Accepted}
-use Rattle.road.specs.Road.{roadVerdict}
+use Rattle.road.specs.Road.{verdictUpTo}
 use Rattle.road.proofs.Places.{curve-places}
 use Rattle.change.specs.Change.{withLength, changeVerdict}
 use Rattle.change.proofs.Laws.{refused-road, changed-too-long}
@@ -24,7 +24,7 @@ enum-told c = search needs
 returns : tie.Need-returns
 returns c =
     let told = c .enum-told .given .1 in let v = c .before .before in
-    told ∙ sym (refused-road _ _ _ (sym (v .verdict .ensures) ∙ told))
+    told ∙ sym (refused-road _ _ _ _ (sym (v .verdict .ensures) ∙ told))
 
 enum-told-2 : tie.Need-enum-told-2
 enum-told-2 c = search needs
@@ -34,11 +34,11 @@ module _ (c : tie.After-enum-told2) where
   abbrev start : tie.Start
   start = c .before .before .before
 
-  accepted : roadVerdict (start .args .road) ≡ Accepted
+  accepted : verdictUpTo (start .args .most) (start .args .road) ≡ Accepted
   accepted = sym (c .before .before .verdict .ensures) ∙ c .enum-told2 .given .1
 
   past-road : let a = start .args in
-      changeVerdict (a .road) (a .place) (a .length) ≡ fault (leb (a .road .count) (a .place)) noCurveRefused (roadVerdict (withLength (a .road) (a .place) (a .length)))
+      changeVerdict (a .most) (a .road) (a .place) (a .length) ≡ fault (leb (a .road .count) (a .place)) noCurveRefused (verdictUpTo (a .most) (withLength (a .road) (a .place) (a .length)))
   unfolding changeVerdict
   past-road = rw accepted refl
 
@@ -52,7 +52,7 @@ returns-2 c =
 
 -- past the test of the place: the changed road decides
 past-place : (c : tie.Else1) → let a = start (c .before .before) .args in
-    changeVerdict (a .road) (a .place) (a .length) ≡ roadVerdict (withLength (a .road) (a .place) (a .length))
+    changeVerdict (a .most) (a .road) (a .place) (a .length) ≡ verdictUpTo (a .most) (withLength (a .road) (a .place) (a .length))
 past-place c =
     let a = start (c .before .before) .args in
     past-road (c .before .before) ∙ rw (lt-leb (a .road .count) (a .place) (omega (arith, c .if1 .left))) refl
@@ -64,7 +64,7 @@ returns-3 : tie.Need-returns-3
 returns-3 c =
     let place = c .before in let known = place .before .before in let a = start known .args in
     let places = curve-places (a .road) _ (start known .good .0) in
-    sym (past-place place ∙ changed-too-long (a .road) places (a .place) (a .length) (accepted known) (place .if1 .left) (omega (arith, c .if2 .taken)))
+    sym (past-place place ∙ changed-too-long (a .most) (a .road) places (a .place) (a .length) (accepted known) (place .if1 .left) (omega (arith, c .if2 .taken)))
 
 cast-with-length : tie.Need-cast-with-length
 cast-with-length c = search needs
@@ -77,8 +77,8 @@ verdict-requires-2 c κs = search needs
 
 returns-4 : tie.Need-returns-4
 returns-4 c =
-    let w = c .before in
-    c .verdict2 .ensures ∙ ap roadVerdict (w .with-length .ensures) ∙ sym (past-place (w .before .before))
+    let w = c .before in let a = start (w .before .before .before .before) .args in
+    c .verdict2 .ensures ∙ ap (verdictUpTo (a .most)) (w .with-length .ensures) ∙ sym (past-place (w .before .before))
 
 pub change-verdict-spec : {M : Type 1} → statement M
 change-verdict-spec =

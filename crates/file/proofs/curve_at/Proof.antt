@@ -1,5 +1,4 @@
 -- `curve_at` meets its contract: each field is what its reader ensures, and a station has at most 4 bytes.
-use native.Mathlib.Omega.{arith}
 use borrow.Author.Needs.{needs}
 use mir.Syntax.{w16}
 use Rattle.whole.proofs.Machine.{got}

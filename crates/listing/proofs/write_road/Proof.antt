@@ -51,7 +51,7 @@ needed m = lined m .before .before .before .before
 abbrev start : tie.After-mark-short-road → tie.Start
 start m = needed m .before .before .before
 
--- the array has a place for each station of an accepted road
+-- the array has a place for each station of a road that is listed
 room : (m : tie.After-mark-short-road) → start m .args .road .length + 1 ≤ length (m .mark-short-road .last .1 .0)
 room m = omega (arith, m .mark-short-road .kept .1 .0, accepted-road _ (start m .pre) .length-high)
 

@@ -6,6 +6,7 @@ use mir.Syntax.{w64}
 use borrow.Author.Needs.{needs}
 use Rattle.whole.proofs.Machine.{got}
 use Rattle.terms.specs.Answers.{signed}
+use Rattle.terms.specs.Limits.{greatestLongRoad}
 use Rattle.terms.specs.declared.Verdict.the-variants.{Accepted}
 use Rattle.road.specs.declared.Road.{Road}
 use Rattle.file.specs.File.{roadIn}
@@ -48,10 +49,10 @@ module _ (c : tie.After-change-verdict) where
   accepted : readVerdict (start .args .file .now) ≡ Accepted
   accepted = sym (verdict-read _ _ _ (told .before .before .read .ensures)) ∙ told .enum-told .given .1
 
-  verdict : let a = start .args in changeVerdict (roadIn (a .file .now)) (a .place) (a .length) ≡ c .change-verdict .result
+  verdict : let a = start .args in changeVerdict greatestLongRoad (roadIn (a .file .now)) (a .place) (a .length) ≡ c .change-verdict .result
   verdict =
       let a = start .args in
-      sym (c .change-verdict .ensures ∙ ap (λ (r : Road). changeVerdict r (a .place) (a .length)) (road-read _ _ _ (told .before .before .read .ensures) accepted))
+      sym (c .change-verdict .ensures ∙ ap (λ (r : Road). changeVerdict greatestLongRoad r (a .place) (a .length)) (road-read _ _ _ (told .before .before .read .ensures) accepted))
 
 change-verdict-requires : tie.Need-change-verdict-requires
 change-verdict-requires c κs = search needs
@@ -75,7 +76,7 @@ enum-told-2 c = search needs
 cast-with-length : tie.Need-cast-with-length
 cast-with-length c =
     let v = c .before .before in let a = start v .args in
-    record { fits = omega (arith, accepted-length (roadIn (a .file .now)) (places-in (a .file .now)) (a .place) (a .length) (verdict v ∙ c .enum-told2 .given .1)) }
+    record { fits = omega (arith, accepted-length greatestLongRoad (roadIn (a .file .now)) (places-in (a .file .now)) (a .place) (a .length) (verdict v ∙ c .enum-told2 .given .1)) }
 
 with-length-requires : tie.Need-with-length-requires
 with-length-requires c κs = search needs

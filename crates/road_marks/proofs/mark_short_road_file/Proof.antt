@@ -1,55 +1,20 @@
--- `mark_short_road_file` meets its contract: reading's verdict decides between its refusal and what `mark_short_road` answers of the road that was
--- read.
-use mathlib.Core.Path.{sym, ap, _∙_}
+-- `mark_short_road_file` meets its contract: its array has a place for each station of the longest road that it takes.
+use native.Mathlib.Omega.{arith}
 use borrow.Author.Needs.{needs}
-use Rattle.terms.specs.Limits.{greatestShortRoad}
-use Rattle.road.specs.declared.Road.{Road}
-use Rattle.file.proofs.Sound.{verdict-read, road-read}
-use Rattle.road_marks.specs.RoadMarks.{markRoadAnswer, markRoadList}
-use Rattle.road_marks.proofs.Ends.{file-refused, file-marked}
 use Rattle.road_marks.proofs.mark_short_road_file.Statement.{statement}
 use Rattle.road_marks.proofs.mark_short_road_file.Tie as tie
 
-read-requires : tie.Need-read-requires
-read-requires c κs = search needs
+slice-aggregate-mark-file-up-to : tie.Need-slice-aggregate-mark-file-up-to
+slice-aggregate-mark-file-up-to c = search needs
 
-enum-known-verdict : tie.Need-enum-known-verdict
-enum-known-verdict c = search needs
-
-returns : tie.Need-returns
-returns c =
-    let read = c .before .before .before in
-    file-refused greatestShortRoad _ _ (sym (verdict-read greatestShortRoad _ _ (read .read .ensures)) ∙ c .before .verdict .given .1)
-
-enum-told : tie.Need-enum-told
-enum-told c = search needs
-
-mark-short-road-requires : tie.Need-mark-short-road-requires
-mark-short-road-requires c κs = search needs
+mark-file-up-to-requires : tie.Need-mark-file-up-to-requires
+mark-file-up-to-requires c κs = (omega arith, omega arith)
 
 same-length : tie.Need-same-length
 same-length c = search needs
 
-returns-2 : tie.Need-returns-2
-returns-2 c =
-    let m = c .before .before in let t = m .before .before in
-    let list = t .before .before .before .before .before .args .list .now in
-    let read = t .before .before .read .ensures in
-    let accepted = sym (verdict-read greatestShortRoad _ _ read) ∙ t .enum-told .given .1 in
-    let road = road-read greatestShortRoad _ _ read accepted in
-    let ends = file-marked greatestShortRoad _ list accepted in (
-      m .mark-short-road .ensures .0 ∙ ap (λ (r : Road). markRoadAnswer greatestShortRoad r list) road ∙ ends .0,
-      m .mark-short-road .ensures .1 ∙ ap (λ (r : Road). markRoadList greatestShortRoad r list) road ∙ ends .1,
-    )
+returns : tie.Need-returns
+returns c = c .before .before .before .mark-file-up-to .ensures
 
 pub mark-short-road-file-spec : {M : Type 1} → statement M
-mark-short-road-file-spec =
-    tie.close
-    (tie.spec
-    read-requires
-    enum-known-verdict
-    returns
-    enum-told
-    mark-short-road-requires
-    same-length
-    returns-2)
+mark-short-road-file-spec = tie.close (tie.spec slice-aggregate-mark-file-up-to mark-file-up-to-requires same-length returns)

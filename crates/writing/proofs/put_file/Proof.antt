@@ -11,7 +11,7 @@ use Rattle.whole.specs.Placed.{Wrote}
 use Rattle.whole.proofs.Placed.{wrote-join, wrote-length}
 use Rattle.file.proofs.Stations.{records-within}
 use Rattle.writing.specs.Bytes.{headerBytes, fileUpTo}
-use Rattle.writing.proofs.Bytes.{front-length}
+use Rattle.writing.proofs.Bytes.{file-up-to-length}
 use Rattle.writing.proofs.put_file.Statement.{statement}
 use Rattle.writing.proofs.put_file.Tie as tie
 
@@ -50,7 +50,7 @@ put-curve-requires c κs =
     let s = stored top in
     let road = start .args .t1 in
     let fits = records-within (road .version) (top .loop .k + 1) (road .count) (omega arith) in
-    omega (arith, wrote-length s, front-length road (top .loop .k), fits)
+    omega (arith, wrote-length s, file-up-to-length road (top .loop .k), fits)
 
 add-k : tie.Need-add-k Inv-loop μ-loop
 add-k c = search needs

@@ -9,7 +9,7 @@ use Rattle.whole.proofs.Machine.{plain}
 use Rattle.whole.proofs.Placed.{wrote-join}
 use Rattle.file.specs.File.{stationBytes}
 use Rattle.writing.specs.Bytes.{headerBytes}
-use Rattle.writing.proofs.Bytes.{header-front-length}
+use Rattle.writing.proofs.Bytes.{front-length}
 use Rattle.writing.proofs.put_header.Statement.{statement}
 use Rattle.writing.proofs.put_header.Tie as tie
 
@@ -21,7 +21,7 @@ put-front-requires c κs = search needs
 
 -- the place behind the front of the header
 front-size : (c : tie.After-put-front) → c .put-front .result ≡ stationBytes (c .before .before .before .args .road .version) + 7
-front-size c = omega (arith, c .put-front .ensures .behind, header-front-length (c .before .before .before .args .road))
+front-size c = omega (arith, c .put-front .ensures .behind, front-length (c .before .before .before .args .road))
 
 bits32-requires : tie.Need-bits32-requires
 bits32-requires c κs = search needs

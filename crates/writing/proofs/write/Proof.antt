@@ -12,7 +12,7 @@ use Rattle.file.specs.File.{byteAt}
 use Rattle.file.proofs.Stations.{second-station, longest-file}
 use Rattle.writing.specs.Bytes.{fileBytes}
 use Rattle.writing.specs.Writing.{writeAnswer, writeList}
-use Rattle.writing.proofs.Bytes.{front-length}
+use Rattle.writing.proofs.Bytes.{file-up-to-length}
 use Rattle.writing.proofs.write.Statement.{statement}
 use Rattle.writing.proofs.write.Tie as tie
 
@@ -61,7 +61,7 @@ unfolding writeAnswer writeList
 returns-3 c =
     let passed = c .before .before .before .before in
     let n = passed .before .file-length .ensures in
-    let filled = rw front-length at (wrote-filled (c .before .before .put-file .ensures)) in
+    let filled = rw file-up-to-length at (wrote-filled (c .before .before .put-file .ensures)) in
     rw n (ends-filled _ _ _ _ _ (accepted (passed .before .before)) (rw n at (passed .if1 .left)) filled)
 
 pub write-spec : {M : Type 1} → statement M
