@@ -73,8 +73,9 @@ road: textable vcp
 textable:
 	$(call need,[ -f "$(TEXT)" ],$(or $(TEXT),TEXT) is not a file: make road TEXT=file [ROAD=out])
 
-# Times the proved functions beside the same calculations in safe Rust and beside the literal rule, and the listing of a
-# thousand roads beside their marking, and prints the tables. It takes two or three minutes.
+# Times the proved functions beside the same calculations in safe Rust and beside the literal rule, long roads beside short ones,
+# and the listing of a thousand roads beside their marking; measures the stack of each operation; and prints the tables. It takes
+# two or three minutes.
 bench: vcp
 	cargo run --profile bench-run --offline --quiet --bin bench
 

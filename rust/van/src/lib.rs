@@ -104,7 +104,7 @@ pub fn crest_length(speed: u32, drop: u32, sight: u32, eye: u32, object: u32) ->
 
 /// Writes the mark of each station of a road file's road, from station 0 on, and answers how many stations there are. Places
 /// beyond those stay as they were. The file is of version 1 or 2, and its road has at most 8,000 m, also in version 2: marks of
-/// [`MOST_STATIONS`] places are enough for any. The call needs about 40 KiB of the thread's stack.
+/// [`MOST_STATIONS`] places are enough for any. The call needs about 35 KiB of the thread's stack.
 ///
 /// The distances are those on the least of the road's grades, the first one included, or on grade 0 if none is negative.
 ///
