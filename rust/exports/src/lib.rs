@@ -297,8 +297,8 @@ pub fn change_length(file: &[u8], place: u32, length: u32, out: &mut [u8]) -> Re
 
 /// Reads a road file, marks its road into the first list, and into the second the road with another length, in metres, of the
 /// curve at a place, counted from 0; answers at how many stations the two differ. `vcp::mark_road_file` says what the bits mean.
-/// Each list has a mark for each station at its front, and what is behind stays; a list of [`SHORT_STATIONS`] holds any road's that is taken. The
-/// call needs about 35 KiB of the thread's stack.
+/// Each list has a mark for each station at its front, and what is behind stays; a list of [`SHORT_STATIONS`] holds those of any
+/// road that is taken. The call needs about 35 KiB of the thread's stack.
 ///
 /// # Errors
 /// Refused 1 to 13 and 25 as [`short_stations`] is, 26 if the place is beyond the last curve, 11 to 13 and 25 as the changed
