@@ -276,17 +276,21 @@ fn check_of_random_heights() {
     }
 }
 
-/// Thousands of zones: a wall every forty metres.
+/// Thousands of zones, one as long as all of them, and tens of thousands: ridges every so many metres.
 #[test]
 fn check_of_many_zones() {
     let folder = folder("check_zones");
-    let heights: Vec<i32> = (0..100_001).map(|station| if station % 40 == 0 { 30_000 } else { 0 }).collect();
-    let survey: String =
-        (0..).zip(&heights).map(|(station, height)| format!("{station},{}\n", height / 10_000)).collect();
-    let ended = run_with(&folder, &["check", "-", "--speed", "20", "--purpose", "1"], survey.as_bytes()).0;
-    let said = read_back("-: ", &ended.output);
-    assert!(said.zones[0].len() > 2_400 && said.zones[2].len() > 2_400, "{} zones", said.zones[0].len());
-    assert_eq!(said, second(20, 1, 0, &heights, 0));
+    // A ridge every so many metres, and how many zones lack stopping sight, or how long one is, at least.
+    for (every, ridge, zones, metres) in [(40, 30_000, 2_400, 1), (2, 30_000, 1, 99_981), (2, 6_500, 49_990, 1)] {
+        let heights: Vec<i32> = (0..100_001).map(|station| if station % every == 0 { ridge } else { 0 }).collect();
+        let height = |height: &i32| format!("{}.{:04}", height / 10_000, height % 10_000);
+        let survey: String = (0..).zip(&heights).map(|(station, own)| format!("{station},{}\n", height(own))).collect();
+        let ended = run_with(&folder, &["check", "-", "--speed", "20", "--purpose", "1"], survey.as_bytes()).0;
+        let said = read_back("-: ", &ended.output);
+        let lengths: Vec<u32> = said.zones[0].iter().map(|&[_, _, length]| length).collect();
+        assert!(lengths.len() >= zones && lengths.iter().any(|&length| length >= metres), "{} zones", lengths.len());
+        assert_eq!(said, second(20, 1, 0, &heights, 0));
+    }
 }
 
 /// Each way of writing the same heights.

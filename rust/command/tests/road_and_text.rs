@@ -60,13 +60,14 @@ fn versions() {
     assert_eq!(run_with(&folder, &["text", "-"], second_file).0.output, format!("version 2\n{GOOD}"));
     let of = |version: &str, length: u32| format!("{}{version}\n", GOOD.replace("1000", &length.to_string()));
     let long_road = format!("3: refused 8: {LONG_ROAD}");
+    let taken = format!("{long_road}; with the line 'version 2' it is taken");
     let no_room = |length: u32| {
         let room = "does not fit a road file of version 1, which has room for 0 to 65535";
-        format!("3: length: \"{length}\" {room}; with the line 'version 2' it fits")
+        format!("3: length: \"{length}\" {room}; one of version 2 has more")
     };
     for (text, status, line) in [
-        (of("", 8_001), 1, &long_road),
-        (of("version 1", 8_001), 1, &long_road),
+        (of("", 8_001), 1, &taken),
+        (of("version 1", 8_001), 1, &taken),
         (of("version 2", 100_001), 1, &long_road),
         (of("", 65_536), 2, &no_room(65_536)),
         (of("version 1", 70_000), 2, &no_room(70_000)),

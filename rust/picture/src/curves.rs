@@ -53,18 +53,35 @@ impl Stretch<'_> {
         writeln!(out, r#"<path class="pvi" d="M{} 13200V{}"/>"#, self.sheet.x(curve.pvi), self.sheet.y(height))
     }
 
-    /// A curve from its begin to its end, a filled hump over a crest and an open bowl over a sag; or a break, a triangle
-    /// that stands on its foot at a crest and on its point in a sag.
+    /// A curve from its begin to its end, a filled hump over a crest and an open bowl over a sag, cut where it goes on in another
+    /// stretch; or a break, a triangle that stands on its foot at a crest and on its point in a sag.
     fn shape(&self, out: &mut Formatter, curve: &Curve, crest: bool, class: &str) -> fmt::Result {
         let (pvi, half) = (i64::from(curve.pvi), i64::from(curve.length / 2));
-        let [from, middle, to] = [pvi - half, pvi, pvi + half].map(|station| self.sheet.x(station));
+        let middle = self.sheet.x(pvi);
         if curve.length == 0 {
             let triangle = if crest { "M-550 0L0-1000L550 0Z" } else { "M-550-1000L0 0L550-1000Z" };
-            writeln!(out, r#"<path class="{class}" d="{triangle}" transform="translate({middle} {SHAPES})"/>"#)
-        } else {
-            let (ends, bend) = if crest { (SHAPES, SHAPES - 2_000) } else { (SHAPES - 1_000, SHAPES + 1_000) };
-            writeln!(out, r#"<path class="{class}" d="M{from} {ends}Q{middle} {bend} {to} {ends}Z"/>"#)
+            return writeln!(out, r#"<path class="{class}" d="{triangle}" transform="translate({middle} {SHAPES})"/>"#);
         }
+        let (ends, bend) = if crest { (SHAPES, SHAPES - 2_000) } else { (SHAPES - 1_000, SHAPES + 1_000) };
+        let whole = [pvi - half, pvi + half];
+        let seen = self.sheet.cut(whole);
+        if seen != whole {
+            return writeln!(out, r#"<path class="{class}" d="{}"/>"#, self.part(whole, seen, [ends, bend]));
+        }
+        let [from, to] = whole.map(|station| self.sheet.x(station));
+        writeln!(out, r#"<path class="{class}" d="M{from} {ends}Q{middle} {bend} {to} {ends}Z"/>"#)
+    }
+
+    /// The part that is seen of a curve's shape, which is a parabola with its ends at one height and the point that bends it at another.
+    /// The cut is upright.
+    fn part(&self, [from, to]: [i64; 2], seen: [i64; 2], [ends, bend]: [i64; 2]) -> String {
+        let all = i128::from(to - from);
+        let [before, behind] = seen.map(|station| i128::from(station - from));
+        let y = |part: i128| ends + (i128::from(bend - ends) * part / (all * all)) as i64;
+        let [left, right] = seen.map(|station| self.sheet.x(station));
+        let [left_y, right_y] = [before, behind].map(|metres| y(2 * metres * (all - metres)));
+        let (bend_x, bend_y) = ((left + right) / 2, y(before * (all - behind) + behind * (all - before)));
+        format!("M{left} {ends}L{left} {left_y}Q{bend_x} {bend_y} {right} {right_y}L{right} {ends}Z")
     }
 
     /// The curves' places, counted from 0, above them, where there is room. The changed curve of a preview has its own, and those

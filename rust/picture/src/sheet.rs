@@ -152,6 +152,13 @@ impl Sheet {
         self.own().start <= last.into() && i64::from(first) < self.own().end
     }
 
+    /// What is to be seen of something from one station to another: it is cut where the road goes on in another stretch.
+    pub fn cut(&self, [from, to]: [i64; 2]) -> [i64; 2] {
+        let first = if self.first == 0 { from } else { from.max(self.first) };
+        let last = if self.last == self.length { to } else { to.min(self.last) };
+        [first, last]
+    }
+
     /// The station in the middle of what is to be seen of a zone.
     pub fn middle(&self, &[first, last]: &[u32; 2]) -> i64 {
         (self.first.max(first.into()) + self.last.min(last.into())) / 2

@@ -7,14 +7,14 @@ use crate::decimal::{self, quoted};
 /// How a version of the road file lays out its numbers. The versions differ in the bytes of a station and in nothing else.
 #[derive(Clone, Copy)]
 pub struct Layout {
-    version: i64,
+    pub version: i64,
     station_bytes: usize,
 }
 
 /// The version of a text that names none.
 pub const FIRST_VERSION: i64 = 1;
 
-const LAYOUTS: [Layout; 2] =
+pub const LAYOUTS: [Layout; 2] =
     [Layout { version: FIRST_VERSION, station_bytes: 2 }, Layout { version: 2, station_bytes: 4 }];
 
 impl Layout {
@@ -131,8 +131,7 @@ impl Field {
         let (file, room) = (self.file_name(layout), self.range(layout));
         let [least, greatest] = [room.start(), room.end()].map(|&number| self.decimal(number));
         let roomier = LAYOUTS.into_iter().find(|&other| self.range(other).contains(&number));
-        let hint =
-            roomier.map_or(String::new(), |other| format!("; with the line 'version {}' it fits", other.version));
+        let hint = roomier.map_or(String::new(), |other| format!("; one of version {} has more", other.version));
         Err(format!("{} does not fit {file}, which has room for {least} to {greatest}{hint}", quoted(text)))
     }
 

@@ -31,7 +31,7 @@ use std::fmt;
 
 use exports::{Refusal, ENOUGH_BYTES};
 
-use crate::field::{Field, Layout, CURVE, FIRST_VERSION, HEAD, VERSION};
+use crate::field::{Field, Layout, CURVE, FIRST_VERSION, HEAD, LAYOUTS, VERSION};
 use crate::lines::{read_lines, Road};
 
 pub mod decimal;
@@ -203,6 +203,21 @@ impl Road {
             (0, _) => self.head[5].line,
             (_, _) => self.curves[curves - 1].line,
         };
-        Err(Fault { line, reason: refusal.to_string(), refused: true })
+        let hint =
+            self.taken_in().map_or(String::new(), |version| format!("; with the line 'version {version}' it is taken"));
+        Err(Fault { line, reason: format!("{refusal}{hint}"), refused: true })
+    }
+
+    /// The other version whose file the proved reader accepts for this road, where there is one. One whose own version is none has
+    /// its fault there.
+    fn taken_in(&self) -> Option<i64> {
+        let own = self.head[0].item;
+        let taken = |version: &i64| {
+            let mut other = self.clone();
+            (other.layout, other.head[0].item) = (Layout::of(*version), *version);
+            accept(&other.file(self.curves.len())).is_ok()
+        };
+        let versions = LAYOUTS.map(|layout| layout.version);
+        versions.contains(&own).then(|| versions.into_iter().find(taken)).flatten()
     }
 }

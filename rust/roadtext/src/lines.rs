@@ -12,6 +12,7 @@ pub struct Placed<T> {
 }
 
 /// A road as its text has it, in the numbers of its road file.
+#[derive(Clone)]
 pub struct Road {
     pub layout: Layout,
     pub head: [Placed<i64>; 6],

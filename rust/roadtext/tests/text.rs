@@ -258,10 +258,13 @@ fn repeated_lines() {
     for (first, (text, name)) in (1..).zip(GOOD.into_iter().zip(NAMES)) {
         expect(7, text, &format!("{name} stands on line {first} already"));
     }
-    // The first of two versions is the text's, whatever the second says.
+    // The first of two versions is the text's, whatever the second says: 70,000 m fit version 2 alone.
     for (first, second) in [("version 2", "version 2"), ("version 1", "version 2"), ("version 2", "version 1")] {
-        let text = format!("{first}\n{}\n{second}", GOOD.join("\n"));
-        assert_eq!(road_file(&text), Err(vec![fault(9, "version stands on line 1 already")]));
+        let of = |length: &str| road_file(&format!("{first}\n{}\n{second}", GOOD.join("\n").replace("1000", length)));
+        let twice = fault(9, "version stands on line 1 already");
+        assert_eq!(of("1000"), Err(vec![twice.clone()]));
+        assert_eq!(of("70000").map_err(|faults| faults.len()), Err(if first == "version 1" { 2 } else { 1 }));
+        assert_eq!(of("70000").map_err(|faults| faults.last().cloned()), Err(Some(twice)));
     }
 }
 
@@ -336,7 +339,7 @@ fn numbers_that_do_not_fit() {
                 format!("{}\n{version}", lines.join("\n"))
             };
             for number in [below, above, "-9223372036854775809", "99999999999999999999999999999999"] {
-                let fits = if file == first && number == above { "; with the line 'version 2' it fits" } else { "" };
+                let fits = if file == first && number == above { "; one of version 2 has more" } else { "" };
                 let room = format!("which has room for {least} to {greatest}{fits}");
                 let reason = format!("{name}: {number:?} does not fit {file}, {room}");
                 assert_eq!(road_file(&with(number)), Err(vec![fault(line, &reason)]));
@@ -364,6 +367,7 @@ fn versions() {
         let second = of("\tversion  2 # and no more", "1000", place).expect("a good text");
         assert_eq!((second.len(), &second[3..5]), (good.len() + 2 + 2 * 2, &[2, 0][..]));
         assert!(of("version 2", "100000", place).is_ok());
+        assert!(of("version 2", "100001", place).is_err());
         for (version, length, reason) in [
             ("version 0", "70000", "refused 3: the version is neither 1 nor 2"),
             ("version 3", "1000", "refused 3: the version is neither 1 nor 2"),
@@ -377,6 +381,38 @@ fn versions() {
             assert_eq!(of(version, length, place), Err(vec![fault(place + 1, reason)]), "{version}");
         }
     }
+}
+
+/// A byte-order mark stands before a version as before any other line. A word that only begins like one is none.
+#[test]
+fn marks_and_words_before_a_version() {
+    let long = GOOD.join("\n").replace("1000", "100000");
+    assert_eq!(road_file(&format!("\u{feff}version 2\n{long}")), road_file(&format!("version 2\n{long}")));
+    assert!(road_file(&format!("\u{feff}version 2\n{long}")).is_ok());
+    for word in ["version2", "Version 2"] {
+        let faults = road_file(&format!("{long}\n{word}")).expect_err("no version is named");
+        let lines: Vec<usize> = faults.iter().map(|fault| fault.line).collect();
+        assert_eq!(lines, [3, 8], "{word}");
+    }
+}
+
+/// Where the road is refused and another version would take it, the proved reader says so.
+#[test]
+fn roads_that_another_version_takes() {
+    let reason = |text: &str| road_file(text).expect_err("a road that is refused")[0].reason.clone();
+    let of = |version: &str, length: &str| format!("{version}\n{}", GOOD.join("\n").replace("1000", length));
+    for (version, length, taken) in [
+        ("", "8001", true),
+        ("version 1", "65535", true),
+        ("version 1", "0", false),
+        ("version 2", "100001", false),
+        ("version 3", "1000", false),
+    ] {
+        let hint = reason(&of(version, length)).ends_with("; with the line 'version 2' it is taken");
+        assert_eq!(hint, taken, "{version} {length}");
+    }
+    // It would not be taken: the speed is at fault in either version.
+    assert!(!reason(&of("", "8001").replace("speed 80", "speed 19")).contains("it is taken"));
 }
 
 #[test]

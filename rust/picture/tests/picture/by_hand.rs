@@ -102,8 +102,8 @@ fn zones_over_the_end_of_a_stretch() {
     assert!(labels.eq([149_200, 22_784].map(|x| Some((x, "7900&#8211;8099".to_string())))));
 }
 
-/// A curve that ends or begins where a stretch does is in that one alone, a break there in the second. One across the end has its
-/// shape in both, and its line and its number by its PVI.
+/// A curve that ends or begins where a stretch does is in that one alone, a break there in the second. One across the end has a
+/// part of its shape in each, and its line and its number by its PVI.
 #[test]
 fn curves_over_the_end_of_a_stretch() {
     let drawn = |curves: &[(u32, u32, i32)]| {
@@ -125,11 +125,13 @@ fn curves_over_the_end_of_a_stretch() {
     assert_eq!((classes(&behind.0), &behind.1), (words("pvi sag pvi crest"), &vec![number(22_000, "1")]));
 
     let [before, behind] = &drawn(&[(8_010, 40, -100)])[..] else { panic!("two stretches") };
-    let shape = |points: [(i64, i64); 3]| Outline::new("crest", "MQZ", &points);
-    assert_eq!(*before, (vec![shape([(149_840, 13_000), (150_000, 11_000), (150_000, 13_000)])], vec![]));
+    // A quarter of the hump, and the rest of it: where it is cut it is three quarters as high as in its middle, 750 of 1,000.
+    let part = |points: [(i64, i64); 5]| Outline::new("crest", "MLQLZ", &points);
+    let first = [(149_840, 13_000), (149_840, 13_000), (149_920, 12_500), (150_000, 12_250), (150_000, 13_000)];
+    assert_eq!(*before, (vec![part(first)], vec![]));
     let line = Outline::new("pvi", "MV", &[(22_160, 13_200), (22_160, 38_000)]);
-    let crest = shape([(22_000, 13_000), (22_160, 11_000), (22_480, 13_000)]);
-    assert_eq!(*behind, (vec![line, crest], vec![number(22_160, "0")]));
+    let rest = [(22_000, 13_000), (22_000, 12_250), (22_240, 11_500), (22_480, 13_000), (22_480, 13_000)];
+    assert_eq!(*behind, (vec![line, part(rest)], vec![number(22_160, "0")]));
 }
 
 fn words(text: &str) -> Vec<String> {

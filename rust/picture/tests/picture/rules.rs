@@ -242,7 +242,29 @@ impl Plot {
         outlines
     }
 
+    /// The part of a curve's shape between two of its metres. It is a parabola; so the point that bends a part lies above its middle,
+    /// as high as twice the parabola there less the mean of the part's ends.
+    fn part_of_shape(&self, class: &str, curve: &Curve, [from, to]: [i64; 2], crest: bool) -> Outline {
+        let (ends, depth) = if crest { (13_000, -2_000) } else { (12_000, 2_000) };
+        let length = curve.end() - curve.begin();
+        let [start, stop] = [from, to].map(|station| station - curve.begin());
+        let parabola = |metres: i64| metres * (length - metres);
+        let above = |part: i64| ends + depth * part / (length * length);
+        let bend = (start + stop) * (2 * length - start - stop) - parabola(start) - parabola(stop);
+        let [left, right] = [from, to].map(|station| self.across(2 * station));
+        let [left_y, right_y] = [start, stop].map(|metres| above(2 * parabola(metres)));
+        let points = [(left, ends), (left, left_y), ((left + right) / 2, above(bend)), (right, right_y), (right, ends)];
+        Outline::new(class, "MLQLZ", &points)
+    }
+
     fn shape(&self, class: &str, curve: &Curve, crest: bool) -> Outline {
+        let goes_on =
+            [self.first > 0 && curve.begin() < self.first, self.last < self.length && self.last < curve.end()];
+        if curve.length > 0 && goes_on != [false; 2] {
+            let from = if goes_on[0] { self.first } else { curve.begin() };
+            let to = if goes_on[1] { self.last } else { curve.end() };
+            return self.part_of_shape(class, curve, [from, to], crest);
+        }
         let [begin, pvi, end] = [curve.begin(), curve.pvi.into(), curve.end()].map(|station| self.across(2 * station));
         let (commands, points) = match (curve.length, crest) {
             (0, true) => ("MLLZ", [(pvi - 550, 13_000), (pvi, 12_000), (pvi + 550, 13_000)]),
