@@ -104,3 +104,7 @@ sharpBreakRefused = 25
 -- a place beyond the last curve
 abbrev pub noCurveRefused : ℕ
 noCurveRefused = 26
+
+-- a road over 8,000 m of which a file of version 1 is wanted
+abbrev pub longRoadRefused : ℕ
+longRoadRefused = 27

@@ -69,6 +69,8 @@ pub const SHARP_BREAK_REFUSED: u8 = 25;
 
 pub const NO_CURVE_REFUSED: u8 = 26;
 
+pub const LONG_ROAD_REFUSED: u8 = 27;
+
 // ---- limits
 // Speeds in km/h.
 pub const LEAST_SPEED: u32 = 20;
