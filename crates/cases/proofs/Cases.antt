@@ -15,13 +15,16 @@ use Rattle.sight.specs.Sight.{availableSight, sightFrom, reach, seen, everyBetw
 use Rattle.sight.specs.Operations.{sightAnswer}
 use Rattle.road_distances.specs.RoadDistances.{leastGrade, roadDistances}
 use Rattle.marks.specs.Marks.{markOf}
+use Rattle.writing.specs.Bytes.{headerBytes, curveBytes, fileUpTo}
+use Rattle.writing.specs.Writing.{writeAnswer, writeList}
+use Rattle.conversion.specs.Conversion.{inVersion, convertVerdict, convertAnswer, convertList}
 use Rattle.change.specs.Change.{withLength, changeVerdict}
 use Rattle.preview.specs.Preview.{differing, previewVerdict, previewAnswer, previewFirst, previewSecond}
 use Rattle.passing.specs.Passing.{passingMark, passingAnswer, passingList}
-use Rattle.cases.specs.Cases.{StarredCases, curve, roadFrom, roadOfVersion, roadFor, roadOf, levelRoad, highRoad, longCrest, valleyFile, otherFile, crestRoad, breaksRoad, heightAt, crestAndSag, shortCrest, leastAdequate, manoeuvre, passingOver}
+use Rattle.cases.specs.Cases.{StarredCases, curve, roadFrom, roadOfVersion, roadFor, roadOf, levelRoad, highRoad, longCrest, valleyFile, crestFile, secondCrestFile, levelFile, otherFile, crestRoad, breaksRoad, heightAt, crestAndSag, shortCrest, leastAdequate, manoeuvre, passingOver}
 
 pub starred-cases : StarredCases
-unfolding requiredDistance metresFor levelMetres gradedMetres levelParts gradedParts upToFive passingDistance passingParts initialParts leftLaneParts oncomingParts manoeuvreOutside manoeuvre crestLength sagLength lengthVerdict leastAdequate leastEven longEnough reachesMinimum adequate withinRoot verdictUpTo numbersVerdict curvesVerdict curveVerdict heightAt ownHeights heightsList heightsAnswer filled storedHeight exactHeight exactFrom floorDiv breaksRoad crestAndSag crestRoad roadOf roadFor roadOfVersion roadFrom levelRoad highRoad longCrest curve valleyFile otherFile numberAt stationBytes curveAt roadIn headerVerdict readVerdictUpTo changeVerdict withLength shortCrest previewAnswer previewFirst previewSecond previewVerdict differing roadDistances leastGrade distancesFor markOf sightVerdict lookVerdict sightAnswer availableSight sightFrom reach seen everyBetween every clears passingOver passingList passingAnswer passingVerdict passingMark
+unfolding requiredDistance metresFor levelMetres gradedMetres levelParts gradedParts upToFive passingDistance passingParts initialParts leftLaneParts oncomingParts manoeuvreOutside manoeuvre crestLength sagLength lengthVerdict leastAdequate leastEven longEnough reachesMinimum adequate withinRoot verdictUpTo numbersVerdict curvesVerdict curveVerdict heightAt ownHeights heightsList heightsAnswer filled storedHeight exactHeight exactFrom floorDiv breaksRoad crestAndSag crestRoad roadOf roadFor roadOfVersion roadFrom levelRoad highRoad longCrest curve valleyFile crestFile secondCrestFile levelFile otherFile numberAt stationBytes curveAt roadIn headerVerdict readVerdictUpTo headerBytes curveBytes fileUpTo writeAnswer writeList inVersion convertVerdict convertAnswer convertList changeVerdict withLength shortCrest previewAnswer previewFirst previewSecond previewVerdict differing roadDistances leastGrade distancesFor markOf sightVerdict lookVerdict sightAnswer availableSight sightFrom reach seen everyBetween every clears passingOver passingList passingAnswer passingVerdict passingMark
 starred-cases = record {
   distances = (refl, refl, refl, refl, refl, refl);
   passing = (refl, refl, refl, refl);
@@ -32,6 +35,7 @@ starred-cases = record {
   breaks = (refl, refl, refl, refl, refl);
   versions = (refl, refl, refl, refl, refl, refl, refl, refl, refl, refl, refl, refl);
   files = (refl, refl, refl, refl, refl, refl, refl, refl, refl, refl, refl, refl);
+  conversions = (refl, refl, refl, refl, refl, refl, refl, refl, refl, refl, refl);
   changes = (refl, refl, refl, refl, refl, refl, refl, refl, refl, refl);
   previews = (refl, refl, refl, refl, refl, refl);
   sights = (refl, refl, refl);

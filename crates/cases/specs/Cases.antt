@@ -6,7 +6,7 @@ use Prim.Native.Nat.{ℕ, _*_, _-_, _/_}
 use lib.IntN.{ℤ, pos, negℤ}
 use lib.ListN.{length, take, getD, replicate}
 use Rattle.terms.specs.Limits.{firstVersion, secondVersion, stoppingPurpose, greatestShortRoad, greatestLongRoad, greatestCurveCount, eyeHeight, objectHeight}
-use Rattle.terms.specs.Refusals.{shortFileRefused, versionRefused, totalRefused, speedRefused, roadLengthRefused, startRefused, curveOrderRefused, roomRefused, sharpBreakRefused, noCurveRefused}
+use Rattle.terms.specs.Refusals.{shortFileRefused, versionRefused, totalRefused, speedRefused, roadLengthRefused, startRefused, curveOrderRefused, roomRefused, sharpBreakRefused, noCurveRefused, longRoadRefused}
 use Rattle.terms.specs.declared.Answer.{Answer}
 use Rattle.terms.specs.declared.Answer.the-variants.{Number, Refused}
 use Rattle.terms.specs.declared.Verdict.the-variants.{Accepted, Fault}
@@ -22,6 +22,7 @@ use Rattle.file.specs.Reading.{readVerdict, shortReadVerdict}
 use Rattle.heights.specs.Profile.{storedHeight}
 use Rattle.heights.specs.Heights.{ownHeights}
 use Rattle.sight.specs.Operations.{sightAnswer}
+use Rattle.conversion.specs.Conversion.{convertAnswer, convertList}
 use Rattle.change.specs.Change.{changeVerdict}
 use Rattle.preview.specs.Preview.{previewAnswer, previewFirst, previewSecond}
 use Rattle.passing.specs.Passing.{passingList}
@@ -87,6 +88,19 @@ highRoad version n = roadFrom version 80 n (pos 90000001) (pos 0) []
 unfoldable pub valleyFile : List ℕ
 valleyFile =
     letters ++ (2 ∷ 0 ∷ 80 ∷ 1 ∷ 160 ∷ 134 ∷ 1 ∷ 0 ∷ 0 ∷ 0 ∷ 0 ∷ 0 ∷ 44 ∷ 1 ∷ 1 ∷ []) ++ (112 ∷ 17 ∷ 1 ∷ 0 ∷ 20 ∷ 0 ∷ 212 ∷ 254 ∷ [])
+
+-- the files of version 1 and of version 2 with N 100, first grade 300 and one curve with PVI 50, length 20 and grade −300
+unfoldable pub crestFile : List ℕ
+crestFile =
+    letters ++ (1 ∷ 0 ∷ 80 ∷ 1 ∷ 100 ∷ 0 ∷ 0 ∷ 0 ∷ 0 ∷ 0 ∷ 44 ∷ 1 ∷ 1 ∷ []) ++ (50 ∷ 0 ∷ 20 ∷ 0 ∷ 212 ∷ 254 ∷ [])
+
+unfoldable pub secondCrestFile : List ℕ
+secondCrestFile =
+    letters ++ (2 ∷ 0 ∷ 80 ∷ 1 ∷ 100 ∷ 0 ∷ 0 ∷ 0 ∷ 0 ∷ 0 ∷ 0 ∷ 0 ∷ 44 ∷ 1 ∷ 1 ∷ []) ++ (50 ∷ 0 ∷ 0 ∷ 0 ∷ 20 ∷ 0 ∷ 212 ∷ 254 ∷ [])
+
+-- the file of version 2 of a level road at this speed, with N 7,936 and so many metres more
+unfoldable pub levelFile : ℕ → ℕ → List ℕ
+levelFile v more = letters ++ (2 ∷ 0 ∷ v ∷ 1 ∷ more ∷ 31 ∷ []) ++ replicate 9 0
 
 -- the first 16 bytes of a file of another version
 unfoldable pub otherFile : ℕ → List ℕ
@@ -190,6 +204,20 @@ pub record StarredCases : Type 0 where
       × (fileLength secondVersion greatestCurveCount ≡ 274)
       × (readVerdict (otherFile 3) ≡ Fault versionRefused)
       × (readVerdict (take 15 (otherFile 3)) ≡ Fault shortFileRefused)
+  -- Converting a file: from version 2 to 1, with bytes beyond, and back; a buffer with a byte too few, which stays; 8,000 m, and a metre
+  -- more, also where the buffer is too short; and faults of reading such a file
+  pub conversions :
+      (convertAnswer secondCrestFile (replicate 24 255) ≡ Number 22)
+      × (convertList secondCrestFile (replicate 24 255) ≡ crestFile ++ (255 ∷ 255 ∷ []))
+      × (convertAnswer crestFile (replicate 26 255) ≡ Number 26)
+      × (convertList crestFile (replicate 26 255) ≡ secondCrestFile)
+      × (convertAnswer crestFile (replicate 25 255) ≡ Refused roomRefused)
+      × (convertList crestFile (replicate 25 255) ≡ replicate 25 255)
+      × (convertAnswer (levelFile 80 64) (replicate 16 255) ≡ Number 16)
+      × (convertAnswer (levelFile 80 65) (replicate 16 255) ≡ Refused longRoadRefused)
+      × (convertAnswer (levelFile 80 65) [] ≡ Refused longRoadRefused)
+      × (convertAnswer (levelFile 19 65) [] ≡ Refused speedRefused)
+      × (convertAnswer (take 17 (levelFile 80 65)) [] ≡ Refused shortFileRefused)
   -- Trying another length: a longer curve; places beyond the one curve, also with an odd length; no length left; up to the sag, and into
   -- it; a road that is refused as it is, at a place beyond its curve, and where the length would mend it; and a place beyond the curve of a
   -- longer road, where none over 8,000 m is taken and where it is
