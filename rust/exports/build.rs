@@ -12,5 +12,6 @@ fn main() {
         "road_exports",
         "preview_exports",
         "listing_exports",
+        "conversion_exports",
     ]);
 }

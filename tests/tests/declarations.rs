@@ -12,6 +12,7 @@ const EXPORTS: [&str; 2] = [
         include_str!("../../crates/road_exports/src/lib.rt"),
         include_str!("../../crates/preview_exports/src/lib.rt"),
         include_str!("../../crates/listing_exports/src/lib.rt"),
+        include_str!("../../crates/conversion_exports/src/lib.rt"),
     ),
     include_str!("../../rust/exports/src/lib.rs"),
 ];
@@ -115,7 +116,7 @@ fn differing([rattle, rust]: [&str; 2]) -> Vec<String> {
 
 #[test]
 fn declarations_are_those_of_the_proved_crates() {
-    for (pair, many) in [(VAN, 3), (EXPORTS, 16)] {
+    for (pair, many) in [(VAN, 3), (EXPORTS, 17)] {
         assert_eq!(exported(pair[0]).len(), many);
         assert_eq!(differing(pair), [""; 0], "{:#?}\n{:#?}", exported(pair[0]), declared(pair[1]));
     }

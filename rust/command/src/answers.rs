@@ -3,7 +3,7 @@
 use std::io::{self, IsTerminal};
 use std::path::Path;
 
-use exports::{Manoeuvre, Refusal, EYE_HEIGHT, GREATEST_LISTING, OBJECT_HEIGHT};
+use exports::{Manoeuvre, Refusal, ENOUGH_BYTES, EYE_HEIGHT, GREATEST_LISTING, OBJECT_HEIGHT};
 use roadtext::Fault;
 
 use crate::arguments::{Given, ACCELERATION, GRADE, HEIGHT, TENTHS, WHOLE};
@@ -126,11 +126,19 @@ pub fn plot(given: &Given, output: &mut Output) -> Result<u8, Trouble> {
     write_answer(given, output, picture.as_bytes())
 }
 
+/// A command that answers a road file has a place for it.
+fn not_for_a_terminal(given: &Given) -> Result<(), Trouble> {
+    match given.output_file() {
+        None if io::stdout().is_terminal() => {
+            Err(given.wrong("a road file is not for a terminal: name a file with -o"))
+        }
+        _ => Ok(()),
+    }
+}
+
 /// `vcp road`.
 pub fn road(given: &Given, output: &mut Output) -> Result<u8, Trouble> {
-    if given.output_file().is_none() && io::stdout().is_terminal() {
-        return Err(given.wrong("a road file is not for a terminal: name a file with -o"));
-    }
+    not_for_a_terminal(given)?;
     let path = given.file();
     let file = roadtext::road_file(&input::text(path)?).map_err(|faults| faulty_text(path, &faults))?;
     write_answer(given, output, &file)
@@ -153,6 +161,32 @@ fn faulty_text(path: &Path, faults: &[Fault]) -> Trouble {
 pub fn text(given: &Given, output: &mut Output) -> Result<u8, Trouble> {
     let text = roadtext::road_text(&input::road_file(given.file())?).map_err(Trouble::refused(given.file()))?;
     write_answer(given, output, text.as_bytes())
+}
+
+/// Reads the version that is wanted of a road file.
+fn version(text: &str) -> Result<i64, String> {
+    match WHOLE.read(text)? {
+        version @ (1 | 2) => Ok(version.into()),
+        _ => Err(format!("{text:?} is neither 1 nor 2")),
+    }
+}
+
+/// A road file in the version that is wanted, which it may have already; where none is, in the other one.
+fn in_version(file: &[u8], wanted: Option<i64>) -> Result<Vec<u8>, Refusal> {
+    let [own, ..] = roadtext::road_numbers(file)?.head;
+    let write = if wanted == Some(own) { exports::rewrite } else { exports::convert };
+    let mut written = vec![0; ENOUGH_BYTES];
+    let length = write(file, &mut written)?;
+    written.truncate(length as usize);
+    Ok(written)
+}
+
+/// `vcp convert`.
+pub fn convert(given: &Given, output: &mut Output) -> Result<u8, Trouble> {
+    not_for_a_terminal(given)?;
+    let wanted = given.option("--to", version)?;
+    let file = in_version(&input::road_file(given.file())?, wanted).map_err(Trouble::refused(given.file()))?;
+    write_answer(given, output, &file)
 }
 
 /// Prints a number.

@@ -71,7 +71,7 @@ const SPEED: Choice = needed("--speed", "KMH", "the speed in km/h");
 const SIGHT: Choice = choice("--sight", "M", "the sight distance (the stopping distance)");
 const GRADE: Choice = choice("--grade", "PERCENT", "the road's grade, uphill positive, as -6.00 (0.00)");
 
-pub const COMMANDS: [Command; 15] = [
+pub const COMMANDS: [Command; 16] = [
     Command {
         name: "list",
         prints: "the listing of road files, for programs",
@@ -224,6 +224,20 @@ What cannot be read, and what is refused of the road, is said with its line.",
         operands: ONE_FILE,
         options: &[OUTPUT],
         run: answers::text,
+    },
+    Command {
+        name: "convert",
+        prints: "a road file in the other version",
+        details: "\
+A file of version 2 becomes one of version 1, which programs that know no other
+can read, and a file of version 1 becomes one of version 2. The road in it is
+the same, and converted back it is FILE again, byte for byte. With --to OUT has
+that version, whichever FILE has: a file that has it already is written as it
+is. A road over 8000 m is refused 27 where version 1 is wanted. OUT may not be
+FILE itself.",
+        operands: ONE_FILE,
+        options: &[choice("--to", "VERSION", "the version of OUT, 1 or 2 (the one FILE has not)"), OUTPUT],
+        run: answers::convert,
     },
     Command {
         name: "distance",

@@ -12,7 +12,7 @@ use std::process::{Command, Stdio};
 use std::thread;
 
 use common::{
-    command, expect_error, folder, root, run, run_with, Ended, LONG_LIST, LONG_ROAD, NO_VERSION, SHORT_FILE,
+    command, expect_error, folder, root, run, run_with, Ended, LONG_LIST, LONG_ROAD, NO_VERSION, SHORT_FILE, TOO_LONG,
     WRONG_TOTAL,
 };
 use sight_tests::random::Random;
@@ -25,7 +25,7 @@ use sight_tests::roads::{self, EXAMPLE, SHARP_BREAK, SHARP_BREAK_REASON};
 const FILE: &str = "FILE";
 
 /// The commands that read a road file.
-const OF_ROADS: [&[&str]; 8] = [
+const OF_ROADS: [&[&str]; 9] = [
     &["list", FILE],
     &["report", FILE],
     &["heights", FILE],
@@ -34,6 +34,7 @@ const OF_ROADS: [&[&str]; 8] = [
     &["preview", FILE, "--curve", "0", "--length", "20"],
     &["passing", FILE, "320"],
     &["text", FILE],
+    &["convert", FILE],
 ];
 
 /// The commands that read something else.
@@ -49,7 +50,7 @@ const NUMBERS: [&[&str]; 5] = [
     &["sag", "--speed", "80", "--rise", "6.00"],
 ];
 
-const NAMES: [&str; 15] = [
+const NAMES: [&str; 16] = [
     "list",
     "report",
     "heights",
@@ -60,6 +61,7 @@ const NAMES: [&str; 15] = [
     "passing",
     "road",
     "text",
+    "convert",
     "distance",
     "passing-distance",
     "sheet",
@@ -121,10 +123,11 @@ fn shipped_roads() {
     }
     for name in ["example.vcp", "level.vcp", "three-crests.vcp", "valley.vcp"] {
         for command in OF_ROADS {
-            // The level road has no curve whose length could be another, and the valley road is too long to be listed.
+            // The level road has no curve whose length could be another, and the valley road is too long to be listed, and for
+            // version 1.
             let refused = match command[0] {
                 "preview" => ["level.vcp", "valley.vcp"].contains(&name),
-                "list" => name == "valley.vcp",
+                "list" | "convert" => name == "valley.vcp",
                 _ => false,
             };
             let ended = run(&root().join("roads"), &on(command, name));
@@ -159,7 +162,8 @@ fn refused_and_empty_files() {
     expect_error(&folder, &on(ROAD, "empty"), 2, &lines);
 }
 
-/// Every command takes both versions, and all but the listing and the preview take roads over 8,000 m.
+/// Every command takes both versions, and all but the listing and the preview take roads over 8,000 m, of which there is no file of
+/// version 1.
 #[test]
 fn versions_and_long_roads() {
     let folder = folder("habits_versions");
@@ -176,11 +180,13 @@ fn versions_and_long_roads() {
     for (version, length) in [(1, 8_000), (2, 8_000), (2, 8_001), (2, 100_000)] {
         fs::write(folder.join("a.vcp"), bytes(&road(version, length))).unwrap();
         for command in OF_ROADS {
-            if length > 8_000 && ["list", "preview"].contains(&command[0]) {
-                expect_refused(&folder, command, "a.vcp", 8, LONG_ROAD);
-            } else {
-                let ended = run(&folder, &on(command, "a.vcp"));
-                assert_eq!((ended.errors.as_str(), ended.status), ("", 0), "{command:?}, {version}, {length}");
+            match command[0] {
+                "list" | "preview" if length > 8_000 => expect_refused(&folder, command, "a.vcp", 8, LONG_ROAD),
+                "convert" if length > 8_000 => expect_refused(&folder, command, "a.vcp", 27, TOO_LONG),
+                _ => {
+                    let ended = run(&folder, &on(command, "a.vcp"));
+                    assert_eq!((ended.errors.as_str(), ended.status), ("", 0), "{command:?}, {version}, {length}");
+                }
             }
         }
     }
@@ -313,15 +319,18 @@ fn answers_and_complaints_in_order() {
 #[test]
 fn terminal() {
     let folder = with_inputs("habits_terminal");
-    let ended = Command::new("script")
-        .args(["-qec", "\"$VCP\" road three-crests.txt", "/dev/null"])
-        .envs([("VCP", env!("CARGO_BIN_EXE_vcp")), ("SHELL", "/bin/sh")])
-        .current_dir(folder)
-        .output()
-        .expect("the system has script, which gives a terminal");
-    let said = String::from_utf8(ended.stdout).expect("errors are text");
-    assert!(said.starts_with("vcp road: a road file is not for a terminal: name a file with -o\r\n"), "{said}");
-    assert_eq!(ended.status.code(), Some(2));
+    for [name, file] in [["road", "three-crests.txt"], ["convert", "three-crests.vcp"]] {
+        let ended = Command::new("script")
+            .args(["-qec", &format!("\"$VCP\" {name} {file}"), "/dev/null"])
+            .envs([("VCP", env!("CARGO_BIN_EXE_vcp")), ("SHELL", "/bin/sh")])
+            .current_dir(&folder)
+            .output()
+            .expect("the system has script, which gives a terminal");
+        let said = String::from_utf8(ended.stdout).expect("errors are text");
+        let line = format!("vcp {name}: a road file is not for a terminal: name a file with -o\r\n");
+        assert!(said.starts_with(&line), "{said}");
+        assert_eq!(ended.status.code(), Some(2));
+    }
 }
 
 /// Where standard error cannot be written the status still tells.
@@ -449,6 +458,7 @@ fn help_is_true() {
         ("plot", format!("A road over {short} m is drawn in stretches of at most 8000 m, one below the other;")),
         ("road", format!("A line 'version 2' makes the file one of version 2, whose road has at most {long} m;")),
         ("road", format!("without such a line, it is of version 1, and its road has at most {short} m.")),
+        ("convert", format!("A road over {short} m is refused 27 where version 1 is wanted.")),
     ] {
         assert!(words(name).contains(&part), "{part}");
     }
@@ -472,8 +482,8 @@ fn help_is_true() {
 fn unknown_commands() {
     let folder = folder("habits_unknown");
     let names =
-        "commands: list, report, heights, sight, check, plot, preview, passing, road, text, distance, passing-distance, sheet, \
-         crest, sag; see vcp --help\n";
+        "commands: list, report, heights, sight, check, plot, preview, passing, road, text, convert, distance, passing-distance, \
+         sheet, crest, sag; see vcp --help\n";
     expect_error(&folder, &[], 2, &format!("vcp: a command is missing\n{names}"));
     for word in ["lists", "LIST", "--list", "", "-"] {
         expect_error(&folder, &[word], 2, &format!("vcp: there is no command {word:?}\n{names}"));
@@ -492,7 +502,7 @@ fn wrong_arguments() {
             let more = [&on(command, "a")[..], &["b"]].concat();
             common::expect_wrong(&folder, &more, "\"b\" is one argument too many");
         }
-        if ["heights", "sight", "plot", "preview", "text"].contains(&command[0]) {
+        if ["heights", "sight", "plot", "preview", "text", "convert"].contains(&command[0]) {
             common::expect_wrong(&folder, &[command[0], "a", "-o"], "-o needs OUT");
         }
     }

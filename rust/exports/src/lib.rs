@@ -1,6 +1,6 @@
 //! The proved operations that the van does not call, safe to call from the command `vcp` and from the tests: the functions
 //! of the crates `curve_exports`, `sight_exports`, `marks_exports`, `passing_exports`, `file_exports`, `road_exports`,
-//! `preview_exports` and `listing_exports`.
+//! `preview_exports`, `listing_exports` and `conversion_exports`.
 //!
 //! Units are those of docs/RULES.md: metres along the road, h-units (tenths of a millimetre) for heights, hundredths of a
 //! percent for grades, uphill positive, and km/h; those of passing stand at [`Manoeuvre`].
@@ -112,6 +112,7 @@ extern "C" {
         after_length: usize,
     ) -> i64;
     fn vcp_list_road_file(file: *const u8, file_length: usize, text: *mut u8, text_length: usize) -> i64;
+    fn vcp_convert(file: *const u8, file_length: usize, out: *mut u8, out_length: usize) -> i64;
 }
 
 /// The least even length in metres of a sag in which headlights reach a sight distance in metres, and which is at least 0.6 V
@@ -327,4 +328,15 @@ pub fn preview(file: &[u8], place: u32, length: u32, before: &mut [u8], after: &
 pub fn list_road_file(file: &[u8], text: &mut [u8]) -> Result<u32, Refusal> {
     // SAFETY: as for `sight_profile`.
     refusal::answer(unsafe { vcp_list_road_file(file.as_ptr(), file.len(), text.as_mut_ptr(), text.len()) })
+}
+
+/// Reads a road file of either version and writes the file of the other, with the same road apart from its version. Converting that
+/// gives the first file's bytes again. A buffer of [`ENOUGH_BYTES`] holds any file.
+///
+/// # Errors
+/// Refused 1 to 13 and 25 as reading the file refuses it, 27 if it is of version 2 and its road is over 8,000 m, then 14 if the
+/// buffer is too short.
+pub fn convert(file: &[u8], out: &mut [u8]) -> Result<u32, Refusal> {
+    // SAFETY: as for `sight_profile`.
+    refusal::answer(unsafe { vcp_convert(file.as_ptr(), file.len(), out.as_mut_ptr(), out.len()) })
 }

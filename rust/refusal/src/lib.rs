@@ -6,7 +6,7 @@
 use std::error::Error;
 use std::fmt;
 
-/// Why there is no answer: one of the numbers of docs/RULES.md, 1 to 26, with its reason in words.
+/// Why there is no answer: one of the numbers of docs/RULES.md, 1 to 27, with its reason in words.
 ///
 /// ```
 /// let refusal = refusal::answer(-6).unwrap_err();
@@ -18,8 +18,8 @@ pub struct Refusal {
     number: u32,
 }
 
-/// The reasons of refusals 1 to 26, in order.
-const REASONS: [&str; 26] = [
+/// The reasons of refusals 1 to 27, in order.
+const REASONS: [&str; 27] = [
     "the file has fewer than 16 bytes, or fewer than 18 in version 2",
     "the file does not begin with the letters VCP",
     "the version is neither 1 nor 2",
@@ -48,6 +48,7 @@ const REASONS: [&str; 26] = [
      t2 not 9.3 to 11.3 s or d3 not 30 to 90 m",
     "the grades of a curve of length 0 differ by more than 50 hundredths of a percent (0.5 %)",
     "there is no curve at this place: places are counted from 0",
+    "the road is over 8,000 m, which is more than a file of version 1 holds",
 ];
 
 impl Refusal {
@@ -102,13 +103,13 @@ mod tests {
     #[test]
     fn each_number_has_its_own_reason() {
         let reason = |number: u32| Refusal { number }.reason();
-        let mut reasons: Vec<&str> = (1..=26).map(reason).collect();
+        let mut reasons: Vec<&str> = (1..=27).map(reason).collect();
         assert_eq!(reasons[5], "the speed is not 20 to 130 km/h");
         assert_eq!(reasons[22], "the lent list holds fewer than two numbers for each zone");
         reasons.sort_unstable();
         reasons.dedup();
-        assert_eq!(reasons.len(), 26);
-        assert!([0, 27, u32::MAX].iter().all(|&number| !reasons.contains(&reason(number))));
+        assert_eq!(reasons.len(), 27);
+        assert!([0, 28, u32::MAX].iter().all(|&number| !reasons.contains(&reason(number))));
     }
 
     #[test]

@@ -1,6 +1,7 @@
 //! The second calculation: the rules, one file for each section of docs/RULES.md, written from their text in exact whole
 //! numbers and with no thought for speed.
 
+pub mod conversion;
 pub mod crest;
 pub mod distances;
 pub mod file;

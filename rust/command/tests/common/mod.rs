@@ -14,6 +14,7 @@ pub const WRONG_TOTAL: &str = "the file's total length is not 16 bytes and 6 for
 pub const LONG_ROAD: &str =
     "the road's length is not 1 to 8,000 m, or to 100,000 m in version 2; the listing, the preview and \
                              the van take no road over 8,000 m";
+pub const TOO_LONG: &str = "the road is over 8,000 m, which is more than a file of version 1 holds";
 pub const LONG_LIST: &str = "the list of heights or marks is empty or longer than 100,001";
 
 /// How the command ended.

@@ -120,12 +120,13 @@ fn on_lists(heights: &[i32]) -> Vec<Named<'_>> {
 
 /// The operations on a road file.
 fn on_files<'a>(short: &'a [u8], long: &'a [u8]) -> Vec<Named<'a>> {
-    let [mut written, mut changed] = [(); 2].map(|_| vec![0; exports::ENOUGH_BYTES]);
+    let [mut written, mut converted, mut changed] = [(); 3].map(|_| vec![0; exports::ENOUGH_BYTES]);
     let [mut van, mut before, mut after] = [(); 3].map(|_| vec![0; exports::SHORT_STATIONS]);
     let (mut heights, mut marks) = (vec![0; exports::LONG_STATIONS], vec![0; exports::LONG_STATIONS]);
     let mut text = vec![0; exports::GREATEST_LISTING];
     vec![
         ("a file written again", Box::new(move || answered(exports::rewrite(long, &mut written)))),
+        ("a file in the other version", Box::new(move || answered(exports::convert(short, &mut converted)))),
         ("a file with another length", Box::new(move || answered(exports::change_length(long, 0, 80, &mut changed)))),
         ("the grade of a file", Box::new(|| answered(exports::file_grade(long)))),
         ("a distance for a file's road", Box::new(|| answered(exports::file_distance(long, 2)))),
