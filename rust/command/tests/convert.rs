@@ -7,6 +7,7 @@ use std::os::unix::fs::symlink;
 use std::path::Path;
 
 use common::{command, expect, expect_error, expect_wrong, folder, names, root, run, run_with, TOO_LONG};
+use sight_tests::pages::{block, text};
 use sight_tests::random::Random;
 use sight_tests::reference::file::bytes;
 use sight_tests::reference::road::Road;
@@ -71,7 +72,35 @@ fn random_roads() {
     }
 }
 
-/// The shipped roads, as the README shows it.
+/// The words of a call.
+fn words(call: &str) -> Vec<&str> {
+    call.split(' ').collect()
+}
+
+/// What the README shows.
+#[test]
+fn calls_of_the_readme() {
+    let folder = folder("convert_readme");
+    fs::create_dir(folder.join("roads")).unwrap();
+    for name in ["roads/example.vcp", "roads/valley.vcp"] {
+        fs::copy(root().join(name), folder.join(name)).unwrap();
+    }
+    let first = "convert roads/example.vcp -o example-2.vcp";
+    expect(&folder, &words(first), "");
+    let readme = text("README.md");
+    let shown = block(&readme, &format!("$ vcp {first}"));
+    let calls = shown.iter().filter_map(|line| line.strip_prefix("$ vcp "));
+    let said: String = calls
+        .map(|call| {
+            let ended = run(&folder, &words(call));
+            format!("$ vcp {call}\n{}{}", ended.output, ended.errors)
+        })
+        .collect();
+    assert_eq!(said, shown.join("\n") + "\n");
+    assert_eq!(names(&folder), ["example-2.vcp", "roads"]);
+}
+
+/// The shipped roads: the converted file is that of the shipped text for version 2.
 #[test]
 fn shipped_roads() {
     let folder = folder("convert_shipped");
