@@ -16,20 +16,20 @@ use Rattle.road.specs.Road.{longestRoad, numbersVerdict, verdictUpTo, ro
 use Rattle.road.proofs.Accepted.{accepted-road}
 
 -- ---- a road up to the limit
--- the test of its length is that of its version
-module _ (most longest n : ℕ) (within : n ≤ most) where
-  too-long : (b : Bool) → ltb longest n ≡ b → ltb (min most longest) n ≡ b
-  too-long true e = lt-ltb (min most longest) n (omega (arith, ltb-true longest n e))
-  too-long false e = le-ltb (min most longest) n (omega (arith, ltb-false longest n e))
+-- of two limits, where a length keeps to one the other decides
+module _ (kept other n : ℕ) (within : n ≤ kept) where
+  too-long : (b : Bool) → ltb other n ≡ b → ltb (min kept other) n ≡ b
+  too-long true e = lt-ltb (min kept other) n (omega (arith, ltb-true other n e))
+  too-long false e = le-ltb (min kept other) n (omega (arith, ltb-false other n e))
 
-  version-decides : outside 1 (min most longest) n ≡ outside 1 longest n
-  version-decides = rw (too-long (ltb longest n) refl)
+  pub other-decides : outside 1 (min kept other) n ≡ outside 1 other n
+  other-decides = rw (too-long (ltb other n) refl)
 
 pub verdict-within : (most more : ℕ) (r : Road) → r .length ≤ most → r .length ≤ more → verdictUpTo most r ≡ verdictUpTo more r
 unfolding verdictUpTo numbersVerdict
 verdict-within most more r l m =
     let longest = longestRoad (r .version) in
-    rw (version-decides most longest (r .length) l, version-decides more longest (r .length) m)
+    rw (other-decides most longest (r .length) l, other-decides more longest (r .length) m)
 
 -- a road that the lister, the preview and the van's marking take is accepted
 pub short-accepted : (r : Road) → shortRoadVerdict r ≡ Accepted → roadVerdict r ≡ Accepted

@@ -1,2 +1,3 @@
 pub mod Versions
 pub mod ThereAndBack
+pub mod MarkedAlike

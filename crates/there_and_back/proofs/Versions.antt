@@ -16,7 +16,7 @@ use Rattle.terms.proofs.Laws.{fault-accepted, first-fault-accepted, not-outside
 use Rattle.road.specs.declared.Road.{Road}
 use Rattle.road.specs.Road.{longestRoad, numbersVerdict, verdictUpTo, roadVerdict}
 use Rattle.road.proofs.Accepted.{accepted-road}
-use Rattle.conversion.specs.Conversion.{otherVersion, inVersion, tooLongFor}
+use Rattle.conversion.specs.Conversion.{otherVersion, inVersion, converted, tooLongFor}
 use Rattle.there_and_back.specs.ThereAndBack.{AcceptedInEither}
 
 -- no version has longer roads than every operation takes, and 1 m is long enough for each
@@ -72,3 +72,23 @@ module _ (version : ℕ) (low : firstVersion ≤ version) (high : version ≤ se
   pub too-long-is : (r : Road) → r .length ≤ greatestLongRoad → tooLongFor version r ≡ ltb (longestRoad version) (r .length)
   too-long-is r within =
       ⊎-elim (λ e. rw e refl) (λ e. rw e (sym (le-ltb greatestLongRoad (r .length) within))) (either-version version low high)
+
+-- ---- an accepted road in its other version
+module _ (r : Road) (ok : roadVerdict r ≡ Accepted) where
+  -- it is refused 8 there just where it is too long
+  pub verdict-there : roadVerdict (converted r) ≡ fault (tooLongFor (otherVersion (r .version)) r) roadLengthRefused Accepted
+  verdict-there =
+      let other = otherVersion (r .version) in let range = other-in-range (r .version) in
+      rw (too-long-is other (range .0) (range .1) r (accepted-road r ok .length-high)) (accepted-in-either other r (range .0) (range .1) ok)
+
+  -- converted twice it is the road itself, and on the way back it is not too long
+  pub converted-twice : converted (converted r) ≡ r
+  unfolding inVersion
+  converted-twice = let f = accepted-road r ok in rw (other-twice (r .version) (f .version-low) (f .version-high)) refl
+
+  pub way-back : tooLongFor (otherVersion (converted r .version)) (converted r) ≡ false
+  unfolding inVersion
+  way-back =
+      let f = accepted-road r ok in
+      rw (other-twice (r .version) (f .version-low) (f .version-high), too-long-is (r .version) (f .version-low) (f .version-high) r (f .length-high))
+      (le-ltb (longestRoad (r .version)) (r .length) (f .length-of-version))

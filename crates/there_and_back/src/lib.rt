@@ -1,2 +1,2 @@
-// What converting a road file keeps (docs/RULES.md, "Converting a file"): specs/ThereAndBack.antt states it, and proofs/ThereAndBack.antt
-// proves it. Nothing depends on this crate.
+// What converting a road file keeps (docs/RULES.md, "Converting a file"): five theorems, stated in specs/ThereAndBack.antt and
+// specs/MarkedAlike.antt, and proved in proofs/. Nothing depends on this crate.
