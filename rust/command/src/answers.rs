@@ -47,14 +47,15 @@ fn for_each_file(
     Ok(status)
 }
 
-/// The file that `-o` names, which must not be what the answer is made from; none where it names standard output.
+/// The file that `-o` names, or none where it names standard output; neither may be what the answer is made from.
 pub fn file_to_write(given: &Given) -> Result<Option<&Path>, Trouble> {
-    match given.output_file() {
-        Some(path) if given.files().any(|file| output::is_input(path, file)) => {
-            Err(Trouble::failed(format!("{}: it would replace what it is made from", shown(path))))
-        }
-        path => Ok(path.filter(|path| !output::is_standard(path))),
+    let path = given.output_file();
+    let place = path.unwrap_or(Path::new("/dev/stdout"));
+    if given.files().any(|file| output::is_input(place, file)) {
+        let name = path.map_or("standard output".to_string(), shown);
+        return Err(Trouble::failed(format!("{name}: it would replace what it is made from")));
     }
+    Ok(path.filter(|path| !output::is_standard(path)))
 }
 
 /// Writes the one answer of a command, into the file that `-o` names or to standard output.
@@ -128,12 +129,11 @@ pub fn plot(given: &Given, output: &mut Output) -> Result<u8, Trouble> {
 
 /// A command that answers a road file has a place for it.
 fn not_for_a_terminal(given: &Given) -> Result<(), Trouble> {
-    match given.output_file() {
-        None if io::stdout().is_terminal() => {
-            Err(given.wrong("a road file is not for a terminal: name a file with -o"))
-        }
-        _ => Ok(()),
+    let standard = given.output_file().is_none_or(output::is_standard);
+    if standard && io::stdout().is_terminal() {
+        return Err(given.wrong("a road file is not for a terminal: name a file with -o"));
     }
+    Ok(())
 }
 
 /// `vcp road`.
@@ -185,6 +185,8 @@ fn in_version(file: &[u8], wanted: Option<i64>) -> Result<Vec<u8>, Refusal> {
 pub fn convert(given: &Given, output: &mut Output) -> Result<u8, Trouble> {
     not_for_a_terminal(given)?;
     let wanted = given.option("--to", version)?;
+    // Where standard output is the file, the shell may have emptied it, and it would be refused for that.
+    file_to_write(given)?;
     let file = in_version(&input::road_file(given.file())?, wanted).map_err(Trouble::refused(given.file()))?;
     write_answer(given, output, &file)
 }

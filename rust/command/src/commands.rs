@@ -234,7 +234,8 @@ can read, and a file of version 1 becomes one of version 2. The road in it is
 the same, and converted back it is FILE again, byte for byte. With --to OUT has
 that version, whichever FILE has: a file that has it already is written as it
 is. A road over 8000 m is refused 27 where version 1 is wanted. OUT may not be
-FILE itself.",
+FILE itself. Without -o the file goes to standard output, which may not be a
+terminal.",
         operands: ONE_FILE,
         options: &[choice("--to", "VERSION", "the version of OUT, 1 or 2 (the one FILE has not)"), OUTPUT],
         run: answers::convert,

@@ -40,18 +40,25 @@ impl Output {
     }
 }
 
-/// Whether the output, where it is a plain file, is the input itself.
+/// Whether the output, where it is a plain file, is the input itself, by whatever path. A second hard name of it is not, since a new
+/// file takes its place, unless it is what standard output goes to.
 pub fn is_input(output: &Path, input: &Path) -> bool {
     let input = if input::is_standard(input) { Path::new("/dev/stdin") } else { input };
-    let same = |output: PathBuf| output.is_file() && fs::canonicalize(input).is_ok_and(|input| input == output);
-    fs::canonicalize(output).is_ok_and(same)
+    let [Ok(there), Ok(own)] = [output, input].map(fs::metadata) else { return false };
+    let other_path = || fs::canonicalize(output).ok() != fs::canonicalize(input).ok();
+    let other_name = || there.nlink() > 1 && !is_standard(output) && other_path();
+    there.is_file() && place(&there) == place(&own) && !other_name()
+}
+
+/// Where a file lies, whatever its names are.
+fn place(file: &Metadata) -> (u64, u64) {
+    (file.dev(), file.ino())
 }
 
 /// Whether a name stands for what standard output goes to, as `/dev/stdout` does: that is written on, and not replaced.
 pub fn is_standard(path: &Path) -> bool {
     let [there, standard] = [path, Path::new("/dev/stdout")].map(fs::metadata);
-    let place = |file: Metadata| (file.dev(), file.ino());
-    there.is_ok_and(|there| standard.is_ok_and(|standard| place(there) == place(standard)))
+    there.is_ok_and(|there| standard.is_ok_and(|standard| place(&there) == place(&standard)))
 }
 
 /// Writes a file. What is no plain file, as a device or a named pipe, takes the bytes as they come.

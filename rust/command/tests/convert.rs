@@ -5,13 +5,18 @@ mod common;
 use std::fs::{self, File};
 use std::os::unix::fs::symlink;
 use std::path::Path;
+use std::process::Stdio;
 
-use common::{command, expect, expect_error, expect_wrong, folder, names, root, run, run_with, TOO_LONG};
+use common::{
+    command, expect, expect_error, expect_wrong, folder, names, root, run, run_with, SHORT_FILE, TOO_LONG, WRONG_TOTAL,
+};
 use sight_tests::pages::{block, text};
 use sight_tests::random::Random;
 use sight_tests::reference::file::bytes;
-use sight_tests::reference::road::Road;
-use sight_tests::roads::{self, in_version, EXAMPLE, EXAMPLE_VERSION_2, LONG_EXAMPLE, SHARP_BREAK, VERSIONS};
+use sight_tests::reference::road::{Curve, Road};
+use sight_tests::roads::{
+    self, in_version, EXAMPLE, EXAMPLE_VERSION_2, LONG_EXAMPLE, SHARP_BREAK, SHARP_BREAK_REASON, VERSIONS,
+};
 
 /// What converts FILE into OUT.
 const CONVERT: [&str; 4] = ["convert", "a.vcp", "-o", "b.vcp"];
@@ -97,7 +102,8 @@ fn calls_of_the_readme() {
         })
         .collect();
     assert_eq!(said, shown.join("\n") + "\n");
-    assert_eq!(names(&folder), ["example-2.vcp", "roads"]);
+    assert_eq!(names(&folder), ["example-1.vcp", "example-2.vcp", "roads"]);
+    assert_eq!(fs::read(folder.join("example-1.vcp")).unwrap(), EXAMPLE);
 }
 
 /// The shipped roads: the converted file is that of the shipped text for version 2.
@@ -152,25 +158,29 @@ fn refused_files() {
     let folder = folder("convert_refused");
     let mut slow = LONG_EXAMPLE;
     slow[5] = 19;
+    // The longest file there is, and a byte behind it.
+    let curves = vec![Curve { pvi: 10, length: 0, grade_out: 0 }; 32];
+    let longer = [bytes(&Road { version: 2, curves, ..roads::one_crest(0, 2, 2, 10) }), vec![0]].concat();
+    assert_eq!(longer.len(), exports::ENOUGH_BYTES);
     for (file, line) in [
-        (&slow[..], "refused 6: the speed is not 20 to 130 km/h"),
-        (&EXAMPLE[..15], "refused 1: the file has fewer than 16 bytes, or fewer than 18 in version 2"),
-        (
-            &SHARP_BREAK,
-            "refused 25: the grades of a curve of length 0 differ by more than 50 hundredths of a percent (0.5 %)",
-        ),
+        (&longer[..], format!("refused 5: {WRONG_TOTAL}")),
+        (&slow, "refused 6: the speed is not 20 to 130 km/h".to_string()),
+        (&EXAMPLE[..15], format!("refused 1: {SHORT_FILE}")),
+        (&SHARP_BREAK, format!("refused 25: {SHARP_BREAK_REASON}")),
     ] {
         fs::write(folder.join("a.vcp"), file).unwrap();
         for to in [&[][..], &["--to", "1"], &["--to", "2"]] {
             expect_error(&folder, &with(&CONVERT, to), 1, &format!("a.vcp: {line}\n"));
+            let from_standard = run_with(&folder, &with(&["convert", "-", "-o", "b.vcp"], to), file).0;
+            assert_eq!((from_standard.errors, from_standard.status), (format!("-: {line}\n"), 1), "{to:?}");
         }
         assert_eq!(fs::read(folder.join("a.vcp")).unwrap(), file);
         assert_eq!(names(&folder), ["a.vcp"]);
     }
 }
 
-/// OUT is never FILE: by no other path or link, and not where it comes on standard input. A second hard name of FILE becomes a file
-/// of its own. This is so where the file would be written as it is, too.
+/// OUT is never FILE: by no other path or link, not where it comes on standard input, and not where it is standard output. A second
+/// hard name of FILE becomes a file of its own. This is so where the file would be written as it is, too.
 #[test]
 fn the_file_itself_is_not_replaced() {
     let folder = folder("convert_itself");
@@ -191,8 +201,31 @@ fn the_file_itself_is_not_replaced() {
             assert_eq!(String::from_utf8_lossy(&from_standard.stderr), line);
         }
     }
-    assert_eq!(fs::read(folder.join("a.vcp")).unwrap(), EXAMPLE);
+    // Nor is it written on where standard output is FILE, by whichever of its names.
     fs::hard_link(folder.join("a.vcp"), folder.join("b.vcp")).unwrap();
+    for out in ["a.vcp", "b.vcp", "link.vcp"] {
+        for (call, input) in [(&["convert", "a.vcp"][..], None), (&["convert", "-", "-o", "-"], Some("a.vcp"))] {
+            let ended = command()
+                .args(call)
+                .current_dir(&folder)
+                .stdin(input.map_or(Stdio::null(), |name| File::open(folder.join(name)).unwrap().into()))
+                .stdout(File::options().append(true).open(folder.join(out)).unwrap())
+                .output()
+                .expect("the command ends");
+            let line = "standard output: it would replace what it is made from\n";
+            assert_eq!(String::from_utf8_lossy(&ended.stderr), line, "{out}");
+            assert_eq!(ended.status.code(), Some(2));
+        }
+    }
+    let emptied = command()
+        .args(["convert", "c.vcp"])
+        .current_dir(&folder)
+        .stdout(File::create(folder.join("c.vcp")).unwrap())
+        .output()
+        .expect("the command ends");
+    assert_eq!(String::from_utf8_lossy(&emptied.stderr), "standard output: it would replace what it is made from\n");
+    fs::remove_file(folder.join("c.vcp")).unwrap();
+    assert_eq!(fs::read(folder.join("a.vcp")).unwrap(), EXAMPLE);
     expect(&folder, &CONVERT, "");
     assert_eq!(both(&folder), [&EXAMPLE[..], &EXAMPLE_VERSION_2]);
     assert_eq!(names(&folder), ["a.vcp", "b.vcp", "link.vcp"]);
@@ -222,7 +255,11 @@ fn other_versions() {
     for (version, reason) in [
         ("0", "\"0\" is neither 1 nor 2"),
         ("3", "\"3\" is neither 1 nor 2"),
+        ("257", "\"257\" is neither 1 nor 2"),
+        ("65537", "\"65537\" is neither 1 nor 2"),
         ("4294967297", "\"4294967297\" is neither 1 nor 2"),
+        (" 1", "\" 1\" is no number"),
+        ("v1", "\"v1\" is no number"),
         ("-1", "\"-1\" is negative"),
         ("1.0", "\"1.0\" is not whole"),
         ("one", "\"one\" is no number"),

@@ -315,21 +315,33 @@ fn answers_and_complaints_in_order() {
     assert_eq!(fs::read_to_string(folder.join("both")).unwrap(), format!("{listing}{refused}{listing}"));
 }
 
-/// A road file is not written to a terminal.
+/// A road file is not written to a terminal, which is standard output where -o does not name a file. It goes into the file that -o
+/// names, and to wherever else standard output leads.
 #[test]
 fn terminal() {
     let folder = with_inputs("habits_terminal");
-    for [name, file] in [["road", "three-crests.txt"], ["convert", "three-crests.vcp"]] {
+    let on_terminal = |call: &str| {
         let ended = Command::new("script")
-            .args(["-qec", &format!("\"$VCP\" {name} {file}"), "/dev/null"])
+            .args(["-qec", &format!("\"$VCP\" {call}"), "/dev/null"])
             .envs([("VCP", env!("CARGO_BIN_EXE_vcp")), ("SHELL", "/bin/sh")])
             .current_dir(&folder)
             .output()
             .expect("the system has script, which gives a terminal");
-        let said = String::from_utf8(ended.stdout).expect("errors are text");
-        let line = format!("vcp {name}: a road file is not for a terminal: name a file with -o\r\n");
-        assert!(said.starts_with(&line), "{said}");
-        assert_eq!(ended.status.code(), Some(2));
+        (ended.status.code(), String::from_utf8(ended.stdout).expect("errors are text"))
+    };
+    for [name, file] in [["road", "three-crests.txt"], ["convert", "three-crests.vcp"]] {
+        for out in ["", " -o -", " -o /dev/stdout"] {
+            let (status, said) = on_terminal(&format!("{name} {file}{out}"));
+            let line = format!("vcp {name}: a road file is not for a terminal: name a file with -o\r\n");
+            assert!(said.starts_with(&line), "{said}");
+            assert_eq!(status, Some(2));
+        }
+        let answer = run_with(&folder, &[name, file], b"").1;
+        for out in ["-o out", "> out", "| cat > out"] {
+            let _ = fs::remove_file(folder.join("out"));
+            assert_eq!(on_terminal(&format!("{name} {file} {out}")), (Some(0), String::new()), "{name} {out}");
+            assert_eq!(fs::read(folder.join("out")).expect("the file is there"), answer, "{name} {out}");
+        }
     }
 }
 
@@ -462,6 +474,16 @@ fn help_is_true() {
     ] {
         assert!(words(name).contains(&part), "{part}");
     }
+    for part in [
+        "Prints a road file in the other version.",
+        "A file of version 2 becomes one of version 1, which programs that know no other can read, and a file of version 1 becomes one of version 2.",
+        "The road in it is the same, and converted back it is FILE again, byte for byte.",
+        "With --to OUT has that version, whichever FILE has: a file that has it already is written as it is.",
+        "OUT may not be FILE itself.",
+    ] {
+        assert!(words("convert").contains(part), "{part}");
+    }
+    assert!(row("convert", "--to").ends_with(" the version of OUT, 1 or 2 (the one FILE has not)"));
     let letters = ["S  stopping sight is lacking", "D  decision sight is lacking", "s  stopping is not judged"];
     for line in letters.into_iter().chain(["R  reduced decision zone", "d  the decision is not judged"]) {
         assert!(help("list").contains(&format!("\n  {line}")), "{line}");
@@ -504,6 +526,7 @@ fn wrong_arguments() {
         }
         if ["heights", "sight", "plot", "preview", "text", "convert"].contains(&command[0]) {
             common::expect_wrong(&folder, &[command[0], "a", "-o"], "-o needs OUT");
+            common::expect_wrong(&folder, &[command[0], "a", "-o", "b", "-o", "c"], "-o stands twice");
         }
     }
     common::expect_wrong(&folder, &["passing", "a"], "DISTANCE is missing");
