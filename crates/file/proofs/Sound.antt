@@ -2,13 +2,13 @@
 use mathlib.Core.Path.{_≡_, refl, ap, _∙_}
 use mathlib.Core.Bool.{not, _||_}
 use mathlib.Core.List.{List}
-use Prim.Native.Nat.{ℕ, _≤_}
+use Prim.Native.Nat.{ℕ, _≤_, _<_}
 use native.Mathlib.Omega.{arith}
 use borrow.Author.Tests.{le-ltb, eq-eqb}
 use mir.Facts.{or-no}
 use lib.Dec.{ltb, eqb, nltb→le}
-use lib.ListN.{length, length-replicate}
-use Rattle.whole.proofs.Fill.{filled-length}
+use lib.ListN.{length, getD, length-replicate}
+use Rattle.whole.proofs.Fill.{filled-length, filled-at}
 use Rattle.terms.specs.Answers.{outside}
 use Rattle.terms.specs.Limits.{firstVersion, secondVersion, greatestCurveCount}
 use Rattle.terms.specs.Refusals.{shortFileRefused, lettersRefused, versionRefused, curveCountRefused, totalRefused}
@@ -74,10 +74,16 @@ sound-file s f =
     )
     (f .road)
 
--- ---- the road in a file has 32 curve places
+-- ---- the road in a file has 32 curve places, and those in use hold the file's records
 pub places-in : (s : List ℕ) → length (roadIn s .curves) ≡ greatestCurveCount
 unfolding roadIn
 places-in s = filled-length (curveAt (versionIn s) s) 0 (curveCount s) _ ∙ length-replicate greatestCurveCount noCurve
+
+pub curve-in : (s : List ℕ) → SoundHeader s → (k : ℕ) → k < curveCount s → getD (roadIn s .curves) k noCurve ≡ curveAt (versionIn s) s k
+unfolding roadIn
+curve-in s f k h =
+    filled-at (curveAt (versionIn s) s) 0 (curveCount s) _ k noCurve (omega arith) (omega arith)
+    (omega (arith, f .count, length-replicate greatestCurveCount noCurve))
 
 -- ---- what reading answers, by its verdict
 pub read-by : (most : ℕ) (s : List ℕ) (v : Verdict) → readVerdictUpTo most s ≡ v →

@@ -4,15 +4,12 @@ use mathlib.Core.Path.{_≡_, sym, ap, _∙_}
 use mathlib.Core.List.{List, _++_}
 use Prim.Native.Nat.{ℕ, zero, suc, _+_, _≤_, _<_}
 use native.Mathlib.Omega.{arith}
-use lib.ListN.{length, take, drop, getD, replicate, length-replicate}
+use lib.ListN.{length, take, drop}
 use lib.Seq.{take-add, take-all, drop-drop}
 use mir.Syntax.{w16, w32}
-use Rattle.whole.proofs.Fill.{filled-at}
 use Rattle.whole.proofs.Twos.{bits-back}
-use Rattle.terms.specs.Limits.{greatestCurveCount}
-use Rattle.road.specs.Road.{noCurve}
 use Rattle.file.specs.File.{byteAt, numberAt, stationBytes, recordLength, fileLength, letters, versionIn, curveCount, curveAt, roadIn}
-use Rattle.file.proofs.Sound.{SoundHeader}
+use Rattle.file.proofs.Sound.{SoundHeader, curve-in}
 use Rattle.file.proofs.Stations.{records-within}
 use Rattle.writing.specs.Bytes.{bytesOf, headerBytes, curveBytes, fileUpTo, fileBytes}
 use Rattle.round_trip.specs.RoundTrip.{Bytes}
@@ -66,17 +63,11 @@ module _ (s : List ℕ) (bytes : Bytes s) (f : SoundHeader s) where
       let two = take-then l w 2 (w + 2) (bytes-back s bytes at w (omega arith)) (behind at w 2 (at + w) (omega arith) (omega arith)) (omega arith) in
       take-then l (w + 2) 2 (recordLength v) two grade (omega arith)
 
-  curve-in : (i : ℕ) → i < curveCount s → getD (roadIn s .curves) i noCurve ≡ curveAt v s i
-  unfolding roadIn
-  curve-in i h =
-      filled-at (curveAt v s) 0 (curveCount s) (replicate greatestCurveCount noCurve) i noCurve (omega arith) (omega arith)
-      (omega (arith, f .count, length-replicate greatestCurveCount noCurve))
-
   front-back : (n : ℕ) → n ≤ curveCount s → fileUpTo (roadIn s) n ≡ take (fileLength v n) s
   unfolding fileUpTo roadIn
   front-back zero h = header-back
   front-back (suc n) h =
-      rw (curve-in n (omega arith))
+      rw (curve-in s f n (omega arith))
       (take-then s (fileLength v n) (recordLength v) (fileLength v (suc n)) (front-back n (omega arith)) (curve-back n (omega arith)) (omega arith))
 
   pub file-back : fileBytes (roadIn s) ≡ s

@@ -5,21 +5,19 @@ use mathlib.Core.Bool.{Bool, true, false}
 use mathlib.Core.List.{List}
 use mathlib.Core.Path.{_≡_, refl, sym, ap, _∙_}
 use native.Mathlib.Omega.{arith}
-use lib.ListN.{length, getD, replicate, length-replicate}
+use lib.ListN.{length, getD}
 use lib.Seq.{getD-take}
-use Rattle.whole.proofs.Fill.{filled-at, filled-cong}
+use Rattle.whole.proofs.Fill.{filled-cong}
 use Rattle.terms.specs.Answers.{refuse, fault, unless}
-use Rattle.terms.specs.Limits.{greatestLongRoad, greatestCurveCount}
+use Rattle.terms.specs.Limits.{greatestLongRoad}
 use Rattle.terms.specs.Refusals.{roadLengthRefused, longRoadRefused}
 use Rattle.terms.specs.declared.Answer.{Answer}
 use Rattle.terms.specs.declared.Verdict.the-variants.{Accepted}
 use Rattle.terms.proofs.Laws.{fault-not-accepted, first-fault-accepted}
-use Rattle.road.specs.declared.Curve.{Curve}
 use Rattle.road.specs.Road.{noCurve, curvesOf, roadVerdict}
-use Rattle.file.specs.declared.ReadRoad.{ReadRoad}
 use Rattle.file.specs.File.{versionIn, curveCount, curveAt, roadIn}
 use Rattle.file.specs.Reading.{readVerdict, readRoad}
-use Rattle.file.proofs.Sound.{SoundHeader, SoundFile, accepted-file, places-in, verdict-read, road-read}
+use Rattle.file.proofs.Sound.{SoundHeader, SoundFile, accepted-file, places-in, curve-in, verdict-read, road-read}
 use Rattle.writing.specs.Writing.{writeAnswer}
 use Rattle.round_trip.specs.RoundTrip.{cleared, ReadBack}
 use Rattle.round_trip.proofs.RoundTrip.{read-then-written, written-then-read}
@@ -49,7 +47,7 @@ module _ (s : List ℕ) (can : convertVerdict s ≡ Accepted) where
   unfolding convertVerdict
   readable = first-fault-accepted (readVerdict s) _ can .0
 
-  file : SoundFile greatestLongRoad s
+  pub file : SoundFile greatestLongRoad s
   file = accepted-file s readable
 
   road-read-is : readRoad s .road ≡ roadIn s
@@ -63,22 +61,14 @@ module _ (s : List ℕ) (can : convertVerdict s ≡ Accepted) where
 
 -- its road has zero in its unused curve places, in either version
 module _ (s : List ℕ) (f : SoundHeader s) where
-  abbrev used : ℕ
-  used = curveCount s
-
-  abbrev zeros : List Curve
-  zeros = replicate greatestCurveCount noCurve
-
-  curve-used : (k : ℕ) → k < used → getD (curvesOf (roadIn s)) k noCurve ≡ curveAt (versionIn s) s k
+  curve-used : (k : ℕ) → k < curveCount s → getD (curvesOf (roadIn s)) k noCurve ≡ curveAt (versionIn s) s k
   unfolding roadIn
-  curve-used k h =
-      getD-take used (roadIn s .curves) k noCurve h
-      ∙ filled-at (curveAt (versionIn s) s) 0 used zeros k noCurve (omega arith) (omega arith) (omega (arith, f .count, length-replicate greatestCurveCount noCurve))
+  curve-used k h = getD-take (curveCount s) (roadIn s .curves) k noCurve h ∙ curve-in s f k h
 
   cleared-already : (version : ℕ) → cleared (inVersion version (roadIn s)) ≡ inVersion version (roadIn s)
   unfolding cleared inVersion roadIn
   cleared-already version =
-      rw (filled-cong (λ (k : ℕ). getD (curvesOf (roadIn s)) k noCurve) (curveAt (versionIn s) s) 0 used zeros (λ k l h. curve-used k (omega arith))) refl
+      rw (filled-cong (λ (k : ℕ). getD (curvesOf (roadIn s)) k noCurve) (curveAt (versionIn s) s) 0 (curveCount s) _ (λ k l h. curve-used k (omega arith))) refl
 
 -- ---- converted, then read
 module _ (s out : List ℕ) (can : convertVerdict s ≡ Accepted) (room : convertedLength s ≤ length out) where
@@ -94,10 +84,10 @@ module _ (s out : List ℕ) (can : convertVerdict s ≡ Accepted) (room : conver
   read-there = rw can (written .read ∙ rw (cleared-already s (file s can .header) (otherVersion (versionIn s))) refl)
 
   pub readable-there : readVerdict there ≡ Accepted
-  readable-there = sym (verdict-read greatestLongRoad there (readRoad there) refl) ∙ ap (λ (x : ReadRoad). x .verdict) read-there
+  readable-there = sym (verdict-read greatestLongRoad there _ (sym read-there))
 
   pub road-in-there : roadIn there ≡ converted (roadIn s)
-  road-in-there = sym (road-read greatestLongRoad there (readRoad there) refl readable-there) ∙ ap (λ (x : ReadRoad). x .road) read-there
+  road-in-there = sym (road-read greatestLongRoad there _ (sym read-there) readable-there)
 
   -- the converted file can be converted, and then it has the first file's road
   way-open : convertVerdict there ≡ Accepted

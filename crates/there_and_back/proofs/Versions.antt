@@ -1,70 +1,61 @@
--- A road in its two versions: the tests of a road see its version in two places, its own test and that of the length. And the other version
--- of the other version is the first.
-use Prim.Native.Nat.{ℕ, _≤_, min}
-use mathlib.Core.Bool.{Bool, true, false, cond}
+-- A road in its two versions. In version 1 it is judged as in version 2 where none over 8,000 m is taken, so that what a limit does to an
+-- accepted road (`accepted-up-to`) says what another version does to it. And the other version of the other version is the first.
+use Prim.Native.Nat.{ℕ, _≤_}
+use mathlib.Core.Bool.{false}
 use mathlib.Core.Logic.{_⊎_, inl, inr, ⊎-elim}
-use mathlib.Core.Path.{_≡_, refl, sym}
+use mathlib.Core.Path.{_≡_, refl, sym, ap, _∙_}
 use native.Mathlib.Nat.{eq-or-lt-of-le}
 use native.Mathlib.Omega.{arith}
 use borrow.Author.Tests.{le-ltb}
-use lib.Dec.{ltb, eqb}
-use Rattle.terms.specs.Answers.{outside, fault, firstFault}
-use Rattle.terms.specs.Limits.{firstVersion, secondVersion, leastSpeed, greatestSpeed, firstDecision, lastPurpose, greatestShortRoad, greatestLongRoad, greatestCurveCount}
-use Rattle.terms.specs.Refusals.{versionRefused, curveCountRefused, speedRefused, purposeRefused, roadLengthRefused}
+use lib.Dec.{ltb}
+use Rattle.terms.specs.Answers.{fault}
+use Rattle.terms.specs.Limits.{firstVersion, secondVersion, greatestShortRoad, greatestLongRoad}
+use Rattle.terms.specs.Refusals.{roadLengthRefused}
 use Rattle.terms.specs.declared.Verdict.the-variants.{Accepted}
-use Rattle.terms.proofs.Laws.{fault-accepted, first-fault-accepted, not-outside}
 use Rattle.road.specs.declared.Road.{Road}
-use Rattle.road.specs.Road.{longestRoad, numbersVerdict, verdictUpTo, roadVerdict}
+use Rattle.road.specs.Road.{longestRoad, numbersVerdict, verdictUpTo, roadVerdict, shortRoadVerdict}
 use Rattle.road.proofs.Accepted.{accepted-road}
+use Rattle.road.proofs.UpTo.{short-accepted, accepted-up-to}
 use Rattle.conversion.specs.Conversion.{otherVersion, inVersion, converted, tooLongFor}
 use Rattle.there_and_back.specs.ThereAndBack.{AcceptedInEither}
 
--- no version has longer roads than every operation takes, and 1 m is long enough for each
-length-test : (version n : ℕ) → 1 ≤ n → outside 1 (min greatestLongRoad (longestRoad version)) n ≡ ltb (longestRoad version) n
-length-test version n low = rw (le-ltb n 1 low) (by-version (eqb version secondVersion))
-  where
-    by-version : (b : Bool) → let longest = cond b greatestLongRoad greatestShortRoad in ltb (min greatestLongRoad longest) n ≡ ltb longest n
-    by-version true = refl
-    by-version false = refl
-
--- where nothing else is at fault the length decides
-length-decides : (b : Bool) → firstFault (fault b roadLengthRefused Accepted) Accepted ≡ fault b roadLengthRefused Accepted
-length-decides true = refl
-length-decides false = refl
-
-pub accepted-in-either : AcceptedInEither
-unfolding verdictUpTo numbersVerdict inVersion
-accepted-in-either version r low high ok =
-    let s = accepted-road r ok in
-    let own = fault-accepted (outside firstVersion secondVersion (r .version)) versionRefused _ ok in
-    let count = fault-accepted (ltb greatestCurveCount (r .count)) curveCountRefused _ (own .1) in
-    let both = first-fault-accepted (numbersVerdict greatestLongRoad r) _ (count .1) in
-    let speed = fault-accepted (outside leastSpeed greatestSpeed (r .speed)) speedRefused _ (both .0) in
-    let purpose = fault-accepted (outside firstDecision lastPurpose (r .purpose)) purposeRefused _ (speed .1) in
-    let size = fault-accepted (outside 1 (min greatestLongRoad (longestRoad (r .version))) (r .length)) roadLengthRefused _ (purpose .1) in
-    rw (
-      not-outside firstVersion secondVersion version (low, high),
-      le-ltb greatestCurveCount (r .count) (s .count),
-      not-outside leastSpeed greatestSpeed (r .speed) (s .speed-low, s .speed-high),
-      not-outside firstDecision lastPurpose (r .purpose) (s .purpose-low, s .purpose-high),
-      length-test version (r .length) (s .length-low),
-      size .1,
-      both .1,
-    )
-    (length-decides (ltb (longestRoad version) (r .length)))
-
--- ---- the other version
+-- a version is one of two
 either-version : (version : ℕ) → firstVersion ≤ version → version ≤ secondVersion → (version ≡ firstVersion) ⊎ (version ≡ secondVersion)
 either-version version low high = ⊎-elim (λ e. inr e) (λ lt. inl (omega arith)) (eq-or-lt-of-le high)
 
-pub other-in-range : (version : ℕ) → (firstVersion ≤ otherVersion version) × (otherVersion version ≤ secondVersion)
-other-in-range version = by-version (eqb version secondVersion)
-  where
-    by-version : (b : Bool) → let other = cond b firstVersion secondVersion in (firstVersion ≤ other) × (other ≤ secondVersion)
-    by-version true = (omega arith, omega arith)
-    by-version false = (omega arith, omega arith)
+-- ---- a road in either version
+-- in version 1 a road is judged as in version 2 where none over 8,000 m is taken
+first-is-short : (r : Road) → roadVerdict (inVersion firstVersion r) ≡ shortRoadVerdict (inVersion secondVersion r)
+unfolding verdictUpTo numbersVerdict inVersion
+first-is-short r = refl
 
+-- in its own version it is the road itself
+own-version : (r : Road) {version : ℕ} → r .version ≡ version → inVersion version r ≡ r
+unfolding inVersion
+own-version r e = rw (← e) refl
+
+-- in version 2 every accepted road is accepted
+in-second : (r : Road) → roadVerdict r ≡ Accepted → roadVerdict (inVersion secondVersion r) ≡ Accepted
+in-second r ok =
+    let f = accepted-road r ok in
+    ⊎-elim
+    (λ e. short-accepted _ (sym (first-is-short r) ∙ ap roadVerdict (own-version r e) ∙ ok))
+    (λ e. ap roadVerdict (own-version r e) ∙ ok)
+    (either-version (r .version) (f .version-low) (f .version-high))
+
+pub accepted-in-either : AcceptedInEither
+unfolding inVersion
+accepted-in-either version r low high ok =
+    ⊎-elim
+    (λ e. rw e (first-is-short r ∙ accepted-up-to greatestShortRoad (inVersion secondVersion r) (in-second r ok)))
+    (λ e. rw e (accepted-up-to greatestLongRoad (inVersion secondVersion r) (in-second r ok)))
+    (either-version version low high)
+
+-- ---- the other version
 module _ (version : ℕ) (low : firstVersion ≤ version) (high : version ≤ secondVersion) where
+  other-in-range : (firstVersion ≤ otherVersion version) × (otherVersion version ≤ secondVersion)
+  other-in-range = ⊎-elim (λ e. rw e (omega arith, omega arith)) (λ e. rw e (omega arith, omega arith)) (either-version version low high)
+
   pub other-twice : otherVersion (otherVersion version) ≡ version
   other-twice = ⊎-elim (λ e. rw e refl) (λ e. rw e refl) (either-version version low high)
 
@@ -78,8 +69,8 @@ module _ (r : Road) (ok : roadVerdict r ≡ Accepted) where
   -- it is refused 8 there just where it is too long
   pub verdict-there : roadVerdict (converted r) ≡ fault (tooLongFor (otherVersion (r .version)) r) roadLengthRefused Accepted
   verdict-there =
-      let other = otherVersion (r .version) in let range = other-in-range (r .version) in
-      rw (too-long-is other (range .0) (range .1) r (accepted-road r ok .length-high)) (accepted-in-either other r (range .0) (range .1) ok)
+      let f = accepted-road r ok in let other = otherVersion (r .version) in let range = other-in-range (r .version) (f .version-low) (f .version-high) in
+      rw (too-long-is other (range .0) (range .1) r (f .length-high)) (accepted-in-either other r (range .0) (range .1) ok)
 
   -- converted twice it is the road itself, and on the way back it is not too long
   pub converted-twice : converted (converted r) ≡ r

@@ -1,12 +1,10 @@
 -- `convert` meets its contract: a refused file gives its number, then a long road 27, and the buffer stays; else the converted road is
 -- written.
 use Prim.Native.Nat.{ℕ}
-use mathlib.Core.Bool.{Bool, true, false, _&&_}
 use mathlib.Core.List.{List}
 use mathlib.Core.Path.{_≡_, refl, ap, ap₂, sym, _∙_}
 use borrow.Author.Needs.{needs}
-use lib.Dec.{ltb, eqb}
-use Rattle.terms.specs.Limits.{firstVersion, greatestShortRoad, greatestLongRoad}
+use Rattle.terms.specs.Limits.{greatestLongRoad}
 use Rattle.terms.specs.declared.Verdict.the-variants.{Accepted}
 use Rattle.road.specs.declared.Road.{Road}
 use Rattle.file.specs.File.{roadIn}
@@ -52,13 +50,14 @@ module _ (c : tie.After-other-version) where
   wanted : c .other-version .result ≡ otherVersion (roadIn file .version)
   wanted = c .other-version .ensures ∙ ap (λ (r : Road). otherVersion (r .version)) road
 
-  too-long : (b : Bool) → eqb (c .other-version .result) firstVersion && ltb greatestShortRoad (told .before .before .read .result .road .length) ≡ b →
-      tooLongFor (otherVersion (roadIn file .version)) (roadIn file) ≡ b
-  too-long b e = rw (← wanted, ← road) e
+  -- the code's test is the definition's
+  too-long :
+      tooLongFor (otherVersion (roadIn file .version)) (roadIn file) ≡ tooLongFor (c .other-version .result) (told .before .before .read .result .road)
+  too-long = sym (ap₂ tooLongFor wanted road)
 
 returns-2 : tie.Need-returns-2
 unfolding convertAnswer convertList convertVerdict
-returns-2 c = let o = c .before .before in rw (accepted o, too-long o true (c .if1 .taken)) (refl, refl)
+returns-2 c = let o = c .before .before in rw (accepted o, too-long o ∙ c .if1 .taken) (refl, refl)
 
 in-version-requires : tie.Need-in-version-requires
 in-version-requires c κs = search needs
@@ -74,7 +73,7 @@ unfolding convertAnswer convertList convertVerdict
 returns-3 c =
     let w = c .before .before in let d = w .before .before in let o = d .before .before .before in
     let made = d .in-version .ensures ∙ ap₂ inVersion (wanted o) (road o) in
-    rw (accepted o, too-long o false (d .before .if1 .left), ← made) (w .write .ensures)
+    rw (accepted o, too-long o ∙ d .before .if1 .left, ← made) (w .write .ensures)
 
 pub convert-spec : {M : Type 1} → statement M
 convert-spec =
