@@ -98,8 +98,8 @@ fn listing(file: &[u8]) -> String {
 #[test]
 fn cases_of_the_rules() {
     let mut random = Random::new(131);
-    let crest = [0x56, 0x43, 0x50, 1, 0, 80, 1, 100, 0, 0, 0, 0, 0, 44, 1, 1, 50, 0, 20, 0, 212, 254];
-    let second = [0x56, 0x43, 0x50, 2, 0, 80, 1, 100, 0, 0, 0, 0, 0, 0, 0, 44, 1, 1, 50, 0, 0, 0, 20, 0, 212, 254];
+    let crest = [86, 67, 80, 1, 0, 90, 2, 100, 0, 24, 252, 255, 255, 44, 1, 1, 50, 0, 20, 0, 212, 254];
+    let second = [86, 67, 80, 2, 0, 90, 2, 100, 0, 0, 0, 24, 252, 255, 255, 44, 1, 1, 50, 0, 0, 0, 20, 0, 212, 254];
     assert_eq!(converted(&mut random, &second), crest);
     assert_eq!(converted(&mut random, &crest), second);
     assert_eq!(converted(&mut random, &bytes(&level(2, 8_000))).len(), 16);

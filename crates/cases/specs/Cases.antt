@@ -89,14 +89,15 @@ unfoldable pub valleyFile : List ℕ
 valleyFile =
     letters ++ (2 ∷ 0 ∷ 80 ∷ 1 ∷ 160 ∷ 134 ∷ 1 ∷ 0 ∷ 0 ∷ 0 ∷ 0 ∷ 0 ∷ 44 ∷ 1 ∷ 1 ∷ []) ++ (112 ∷ 17 ∷ 1 ∷ 0 ∷ 20 ∷ 0 ∷ 212 ∷ 254 ∷ [])
 
--- the files of version 1 and of version 2 with N 100, first grade 300 and one curve with PVI 50, length 20 and grade −300
+-- the files of version 1 and of version 2 of a road at 90 km/h, decision B, with N 100, start height −1,000, first grade 300 and one curve
+-- with PVI 50, length 20 and grade −300
 unfoldable pub crestFile : List ℕ
 crestFile =
-    letters ++ (1 ∷ 0 ∷ 80 ∷ 1 ∷ 100 ∷ 0 ∷ 0 ∷ 0 ∷ 0 ∷ 0 ∷ 44 ∷ 1 ∷ 1 ∷ []) ++ (50 ∷ 0 ∷ 20 ∷ 0 ∷ 212 ∷ 254 ∷ [])
+    letters ++ (1 ∷ 0 ∷ 90 ∷ 2 ∷ 100 ∷ 0 ∷ 24 ∷ 252 ∷ 255 ∷ 255 ∷ 44 ∷ 1 ∷ 1 ∷ []) ++ (50 ∷ 0 ∷ 20 ∷ 0 ∷ 212 ∷ 254 ∷ [])
 
 unfoldable pub secondCrestFile : List ℕ
 secondCrestFile =
-    letters ++ (2 ∷ 0 ∷ 80 ∷ 1 ∷ 100 ∷ 0 ∷ 0 ∷ 0 ∷ 0 ∷ 0 ∷ 0 ∷ 0 ∷ 44 ∷ 1 ∷ 1 ∷ []) ++ (50 ∷ 0 ∷ 0 ∷ 0 ∷ 20 ∷ 0 ∷ 212 ∷ 254 ∷ [])
+    letters ++ (2 ∷ 0 ∷ 90 ∷ 2 ∷ 100 ∷ 0 ∷ 0 ∷ 0 ∷ 24 ∷ 252 ∷ 255 ∷ 255 ∷ 44 ∷ 1 ∷ 1 ∷ []) ++ (50 ∷ 0 ∷ 0 ∷ 0 ∷ 20 ∷ 0 ∷ 212 ∷ 254 ∷ [])
 
 -- the file of version 2 of a level road at this speed, with N 7,936 and so many metres more
 unfoldable pub levelFile : ℕ → ℕ → List ℕ
@@ -205,7 +206,7 @@ pub record StarredCases : Type 0 where
       × (readVerdict (otherFile 3) ≡ Fault versionRefused)
       × (readVerdict (take 15 (otherFile 3)) ≡ Fault shortFileRefused)
   -- Converting a file: from version 2 to 1, with bytes beyond, and back; a buffer with a byte too few, which stays; 8,000 m, and a metre
-  -- more, also where the buffer is too short; and faults of reading such a file
+  -- more, where it stays too, also where the buffer is too short; and faults of reading such a file
   pub conversions :
       (convertAnswer secondCrestFile (replicate 24 255) ≡ Number 22)
       × (convertList secondCrestFile (replicate 24 255) ≡ crestFile ++ (255 ∷ 255 ∷ []))
@@ -215,6 +216,7 @@ pub record StarredCases : Type 0 where
       × (convertList crestFile (replicate 25 255) ≡ replicate 25 255)
       × (convertAnswer (levelFile 80 64) (replicate 16 255) ≡ Number 16)
       × (convertAnswer (levelFile 80 65) (replicate 16 255) ≡ Refused longRoadRefused)
+      × (convertList (levelFile 80 65) (replicate 16 255) ≡ replicate 16 255)
       × (convertAnswer (levelFile 80 65) [] ≡ Refused longRoadRefused)
       × (convertAnswer (levelFile 19 65) [] ≡ Refused speedRefused)
       × (convertAnswer (take 17 (levelFile 80 65)) [] ≡ Refused shortFileRefused)

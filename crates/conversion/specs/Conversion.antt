@@ -45,7 +45,8 @@ convertVerdict file =
     let r = roadIn file in
     firstFault (readVerdict file) (fault (tooLongFor (otherVersion (r .version)) r) longRoadRefused Accepted)
 
--- converting: refused so, then as writing the converted road is, which is by 14 alone; else how many bytes are written
+-- converting: refused so, then as writing the converted road is, which is by 14 alone (`AfterReading` of `there_and_back`); else how many
+-- bytes are written
 unfoldable pub convertAnswer : List ℕ → List ℕ → Answer
 convertAnswer file out = unless (convertVerdict file) (writeAnswer (converted (roadIn file)) out)
 

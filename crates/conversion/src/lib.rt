@@ -17,7 +17,7 @@ fn other_version(version: u32) -> u32
 }
 
 // The same road in another version.
-fn in_version(road: Road, version: u32) -> Road
+fn in_version(version: u32, road: Road) -> Road
     ensures { λ r. ⌜ r ≡ inVersion version road ⌝ }
 {
     let mut converted = road;
@@ -41,5 +41,5 @@ pub fn convert(file: &[u8], out: &mut [u8]) -> Answer
     if (wanted == terms::FIRST_VERSION) & (terms::GREATEST_SHORT_ROAD < road.length) {
         return Answer::Refused(terms::LONG_ROAD_REFUSED);
     }
-    writing::write(in_version(road, wanted), out)
+    writing::write(in_version(wanted, road), out)
 }

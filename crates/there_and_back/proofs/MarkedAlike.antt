@@ -18,7 +18,7 @@ use Rattle.file.specs.Reading.{headerVerdict, readVerdictUpTo}
 use Rattle.conversion.specs.Conversion.{inVersion, converted, convertVerdict}
 use Rattle.there_and_back.specs.ThereAndBack.{convertedLength, convertedFile}
 use Rattle.there_and_back.specs.MarkedAlike.{MarkedAlike}
-use Rattle.there_and_back.proofs.ThereAndBack.{readable, file, accepted-there, readable-there, road-in-there}
+use Rattle.there_and_back.proofs.ThereAndBack.{readable, sound, accepted-there, readable-there, road-in-there}
 
 -- ---- a road that is accepted in both versions
 module _ (r : Road) (ok : roadVerdict r ≡ Accepted) (there : roadVerdict (converted r) ≡ Accepted) where
@@ -47,16 +47,16 @@ module _ (s out : List ℕ) (can : convertVerdict s ≡ Accepted) (room : conver
   same-read most =
       let header = first-fault-accepted (headerVerdict s) _ (readable s can) .0 in
       let header-there = first-fault-accepted (headerVerdict there) _ (readable-there s out can room) .0 in
-      rw (header, header-there, road-in-there s out can room, same-verdict (roadIn s) (file s can .road) (accepted-there s can) most)
+      rw (header, header-there, road-in-there s out can room, same-verdict (roadIn s) (sound s can .road) (accepted-there s can) most)
 
   same-answer : (most : ℕ) (marks : List ℕ) → markFileAnswer most there marks ≡ markFileAnswer most s marks
   unfolding markFileAnswer markRoadAnswer inVersion
   same-answer most marks =
-      rw (same-read most, road-in-there s out can room, same-verdict (roadIn s) (file s can .road) (accepted-there s can) most) refl
+      rw (same-read most, road-in-there s out can room, same-verdict (roadIn s) (sound s can .road) (accepted-there s can) most) refl
 
 pub marked-alike : MarkedAlike
 unfolding markFileList
 marked-alike most s out marks can room =
     let answer = same-answer s out can room most marks in
-    let mark = same-mark (roadIn s) (file s can .road) (accepted-there s can) in
+    let mark = same-mark (roadIn s) (sound s can .road) (accepted-there s can) in
     record { answer = answer; list = rw (answer, road-in-there s out can room, mark) }

@@ -23,9 +23,10 @@ use Rattle.round_trip.specs.RoundTrip.{cleared, ReadBack}
 use Rattle.round_trip.proofs.RoundTrip.{read-then-written, written-then-read}
 use Rattle.conversion.specs.Conversion.{otherVersion, inVersion, converted, tooLongFor, convertVerdict, convertAnswer, convertList}
 use Rattle.there_and_back.specs.ThereAndBack.{convertedLength, convertedFile, AfterReading, ConvertedThenRead, ThereAndBack}
-use Rattle.there_and_back.proofs.Versions.{verdict-there, converted-twice, way-back}
+use Rattle.there_and_back.proofs.Versions.{verdict-there, converted-twice}
 
 -- ---- what comes after reading
+-- 27 stands before the 8 that writing would give, so that after it the room decides
 long-or-no-room : (b : Bool) (room : Answer) →
     unless (fault b longRoadRefused Accepted) (unless (fault b roadLengthRefused Accepted) room) ≡ refuse b longRoadRefused room
 long-or-no-room true room = refl
@@ -37,7 +38,7 @@ after-reading s out ok =
     rw (ok, verdict-there (roadIn s) (accepted-file s ok .road)) (long-or-no-room (tooLongFor (otherVersion (versionIn s)) (roadIn s)) _)
 
 -- ---- a file that can be converted
--- a test that one number passes another passes
+-- where a test accepts, the number by which it would refuse does not count
 other-number : (b : Bool) (j k : ℕ) → fault b j Accepted ≡ Accepted → fault b k Accepted ≡ Accepted
 other-number true j k e = absurd (fault-not-accepted j e)
 other-number false j k e = refl
@@ -47,16 +48,16 @@ module _ (s : List ℕ) (can : convertVerdict s ≡ Accepted) where
   unfolding convertVerdict
   readable = first-fault-accepted (readVerdict s) _ can .0
 
-  pub file : SoundFile greatestLongRoad s
-  file = accepted-file s readable
+  pub sound : SoundFile greatestLongRoad s
+  sound = accepted-file s readable
 
-  road-read-is : readRoad s .road ≡ roadIn s
-  road-read-is = road-read greatestLongRoad s (readRoad s) refl readable
+  read-road-is : readRoad s .road ≡ roadIn s
+  read-road-is = road-read greatestLongRoad s (readRoad s) refl readable
 
   pub accepted-there : roadVerdict (converted (roadIn s)) ≡ Accepted
   unfolding convertVerdict
   accepted-there =
-      verdict-there (roadIn s) (file .road)
+      verdict-there (roadIn s) (sound .road)
       ∙ other-number (tooLongFor (otherVersion (roadIn s .version)) (roadIn s)) longRoadRefused roadLengthRefused (first-fault-accepted (readVerdict s) _ can .1)
 
 -- its road has zero in its unused curve places, in either version
@@ -75,13 +76,13 @@ module _ (s out : List ℕ) (can : convertVerdict s ≡ Accepted) (room : conver
   abbrev there : List ℕ
   there = convertedFile s out
 
-  written : ReadBack (converted (roadIn s)) out
+  read-back : ReadBack (converted (roadIn s)) out
   unfolding inVersion roadIn
-  written = written-then-read (converted (roadIn s)) out (omega (arith, places-in s, file s can .header .count)) (accepted-there s can) room
+  read-back = written-then-read (converted (roadIn s)) out (omega (arith, places-in s, sound s can .header .count)) (accepted-there s can) room
 
   read-there : readRoad there ≡ record { verdict = Accepted; road = converted (roadIn s) }
   unfolding convertList inVersion roadIn
-  read-there = rw can (written .read ∙ rw (cleared-already s (file s can .header) (otherVersion (versionIn s))) refl)
+  read-there = rw can (read-back .read ∙ rw (cleared-already s (sound s can .header) (otherVersion (versionIn s))) refl)
 
   pub readable-there : readVerdict there ≡ Accepted
   readable-there = sym (verdict-read greatestLongRoad there _ (sym read-there))
@@ -89,25 +90,27 @@ module _ (s out : List ℕ) (can : convertVerdict s ≡ Accepted) (room : conver
   pub road-in-there : roadIn there ≡ converted (roadIn s)
   road-in-there = sym (road-read greatestLongRoad there _ (sym read-there) readable-there)
 
-  -- the converted file can be converted, and then it has the first file's road
-  way-open : convertVerdict there ≡ Accepted
+  -- the converted file can be converted, since its road in the other version is the first file's, which is accepted
+  convertible-there : convertVerdict there ≡ Accepted
   unfolding convertVerdict
-  way-open = rw (readable-there, road-in-there, way-back (roadIn s) (file s can .road)) refl
+  convertible-there =
+      let back = sym (verdict-there (converted (roadIn s)) (accepted-there s can)) ∙ ap roadVerdict (converted-twice (roadIn s) (sound s can .road)) ∙ sound s can .road in
+      rw (readable-there, road-in-there) (other-number (tooLongFor (otherVersion (converted (roadIn s) .version)) (converted (roadIn s))) roadLengthRefused longRoadRefused back)
 
-  road-again : converted (roadIn there) ≡ readRoad s .road
-  road-again = ap converted road-in-there ∙ converted-twice (roadIn s) (file s can .road) ∙ sym (road-read-is s can)
+  converted-there : converted (roadIn there) ≡ readRoad s .road
+  converted-there = ap converted road-in-there ∙ converted-twice (roadIn s) (sound s can .road) ∙ sym (read-road-is s can)
 
 pub converted-then-read : ConvertedThenRead
 unfolding convertAnswer inVersion roadIn
 converted-then-read s out can room = record {
-  answer = rw can (written s out can room .answer);
-  read = rw (road-read-is s can) (read-there s out can room);
+  answer = rw can (read-back s out can room .answer);
+  read = rw (read-road-is s can) (read-there s out can room);
 }
 
 -- ---- there and back
 pub there-and-back : ThereAndBack
 unfolding convertAnswer convertList
 there-and-back s out back bytes can room room-back =
-    let open-there = way-open s out can room in let again = road-again s out can room in
+    let can-back = convertible-there s out can room in let again = converted-there s out can room in
     let same = read-then-written s back bytes (verdict-read greatestLongRoad s (readRoad s) refl ∙ readable s can) room-back in
-    record { answer = rw (open-there, again) (same .answer); front = rw (open-there, again) (same .front) }
+    record { answer = rw (can-back, again) (same .answer); front = rw (can-back, again) (same .front) }

@@ -1,7 +1,6 @@
 -- A road in its two versions. In version 1 it is judged as in version 2 where none over 8,000 m is taken, so that what a limit does to an
 -- accepted road (`accepted-up-to`) says what another version does to it. And the other version of the other version is the first.
 use Prim.Native.Nat.{ℕ, _≤_}
-use mathlib.Core.Bool.{false}
 use mathlib.Core.Logic.{_⊎_, inl, inr, ⊎-elim}
 use mathlib.Core.Path.{_≡_, refl, sym, ap, _∙_}
 use native.Mathlib.Nat.{eq-or-lt-of-le}
@@ -69,17 +68,11 @@ module _ (r : Road) (ok : roadVerdict r ≡ Accepted) where
   -- it is refused 8 there just where it is too long
   pub verdict-there : roadVerdict (converted r) ≡ fault (tooLongFor (otherVersion (r .version)) r) roadLengthRefused Accepted
   verdict-there =
-      let f = accepted-road r ok in let other = otherVersion (r .version) in let range = other-in-range (r .version) (f .version-low) (f .version-high) in
+      let f = accepted-road r ok in let other = otherVersion (r .version) in
+      let range = other-in-range (r .version) (f .version-low) (f .version-high) in
       rw (too-long-is other (range .0) (range .1) r (f .length-high)) (accepted-in-either other r (range .0) (range .1) ok)
 
-  -- converted twice it is the road itself, and on the way back it is not too long
+  -- converted twice it is the road itself
   pub converted-twice : converted (converted r) ≡ r
   unfolding inVersion
   converted-twice = let f = accepted-road r ok in rw (other-twice (r .version) (f .version-low) (f .version-high)) refl
-
-  pub way-back : tooLongFor (otherVersion (converted r .version)) (converted r) ≡ false
-  unfolding inVersion
-  way-back =
-      let f = accepted-road r ok in
-      rw (other-twice (r .version) (f .version-low) (f .version-high), too-long-is (r .version) (f .version-low) (f .version-high) r (f .length-high))
-      (le-ltb (longestRoad (r .version)) (r .length) (f .length-of-version))
