@@ -285,6 +285,22 @@ fn closed_pipe() {
     }
 }
 
+/// A command that has -o writes its answer neither over what it is made from nor behind it, where standard output is that file.
+#[test]
+fn standard_output_that_is_the_input() {
+    let folder = with_inputs("habits_itself");
+    let line = "standard output: it would replace what it is made from\n";
+    let roads = ["heights", "sight", "plot", "text", "convert"].map(|name| [name, "three-crests.vcp"]);
+    for [name, file] in roads.into_iter().chain([["road", "three-crests.txt"]]) {
+        let before = fs::read(folder.join(file)).expect("the input is there");
+        let behind = || File::options().append(true).open(folder.join(file)).expect("it can be written");
+        assert_eq!(into(&folder, &[name, file], behind()), (Some(2), line.to_string()), "{name}");
+        let named = into(&folder, &[name, file, "-o", "/dev/stdout"], behind());
+        assert_eq!(named, (Some(2), line.replace("standard output", "/dev/stdout")), "{name}");
+        assert_eq!(fs::read(folder.join(file)).expect("the input is there"), before, "{name}");
+    }
+}
+
 /// A named pipe that is closed ends it as quietly.
 #[test]
 fn closed_named_pipe() {
