@@ -1,4 +1,5 @@
 pub mod Answers
+pub mod Counted
 pub mod Reach
 pub mod Seen
 pub mod Steepest

@@ -35,7 +35,7 @@ slope-trans a b c k m n l f g =
     (≤ℤ-trans (*ℤ-mono n f) (rw (swap c (pos k) (pos n)) (*ℤ-mono k g))))
 
 -- higher is steeper
-slope-raise : (a b : ℤ) (o k n : ℕ) → NoSteeper a k b n → NoSteeper a k (b +ℤ pos o) n
+pub slope-raise : (a b : ℤ) (o k n : ℕ) → NoSteeper a k b n → NoSteeper a k (b +ℤ pos o) n
 slope-raise a b o k n f =
     let v = var b in
     ≤ℤ-trans f (*ℤ-mono k {x = b} {y = b +ℤ pos o} (le-by (search reps) (search reps) (omega arith)))
@@ -113,11 +113,15 @@ module _ {h : ℕ → ℤ} {e o i : ℕ} where
     none-steeper x f t l r =
         slope-trans (rise h e i t) x (rise h e i run) t run next (w .ahead (omega arith)) (w .steepest t l r) f
 
-    -- an object on the steepest line or above it is seen
-    seen-above : NoSteeper (rise h e i run) run (rise h e i next +ℤ pos o) next →
-        (t : ℕ) → 0 < t → t < next + 1 → T (seen h e o i (i + t))
-    seen-above f =
-        one-more (w .seen-all) (seen-by h e o i (i + next) (seen-by-slopes h e o i next (none-steeper (rise h e i next +ℤ pos o) f)))
+    -- an object, of any height, on the steepest line or above it is seen
+    pub object-seen : (o′ : ℕ) → NoSteeper (rise h e i run) run (rise h e i next +ℤ pos o′) next → T (seen h e o′ i (i + next))
+    object-seen o′ f = seen-by h e o′ i (i + next) (seen-by-slopes h e o′ i next (none-steeper (rise h e i next +ℤ pos o′) f))
+
+    -- one below it is hidden, by the station `run` metres ahead
+    pub object-hidden : (o′ : ℕ) → Flatter (rise h e i next +ℤ pos o′) next (rise h e i run) run → T (seen h e o′ i (i + next)) → ⊥
+    object-hidden o′ f s =
+        let ahead = flatter-ahead h e i (rise h e i next +ℤ pos o′) run next f in
+        clashℤ f (slopes-by-seen h e o′ i next (seen-to h e o′ i (i + next) s) run ahead (w .before))
 
     -- the next station's road is on the line or above it: the line to it is the steepest
     pub passed-steep : NoSteeper (rise h e i run) run (rise h e i next) next → Passed h e o i next (next + 1)
@@ -125,7 +129,7 @@ module _ {h : ℕ → ℤ} {e o i : ℕ} where
       ahead = λ l. omega (arith, w .before);
       before = omega arith;
       steepest = one-more (none-steeper (rise h e i next) f) (≤ℤ-refl _);
-      seen-all = seen-above (slope-raise (rise h e i run) (rise h e i next) o run next f);
+      seen-all = one-more (w .seen-all) (object-seen o (slope-raise (rise h e i run) (rise h e i next) o run next f));
     }
 
     -- its road is below the line and the object on it is not: the line stays
@@ -135,7 +139,7 @@ module _ {h : ℕ → ℤ} {e o i : ℕ} where
       ahead = λ l. flatter-ahead h e i (rise h e i next) run next f;
       before = omega (arith, w .before);
       steepest = one-more (w .steepest) (≤ℤ-of-< f);
-      seen-all = seen-above g;
+      seen-all = one-more (w .seen-all) (object-seen o g);
     }
 
 -- ---- its end, over a list
@@ -146,13 +150,11 @@ module _ (list : List ℤ) {e o i run next : ℕ} (far : ℕ) (w : Passed (heigh
       next - 1 ≡ availableSight list i e o far
   unfolding availableSight sightFrom
   passed-hidden l f =
-      let h = heightAt list in
       let q : suc (next - 1) ≡ next = omega (arith, w .before) in
-      let ahead = flatter-ahead h e i (rise h e i next +ℤ pos o) run next f in
       available-unique record {
         within = omega arith;
         all = λ t m r. w .seen-all t m (omega (arith, w .before));
-        stop = λ m p. clashℤ f (slopes-by-seen h e o i next (seen-to h e o i (i + next) (rw q at p)) run ahead (w .before));
+        stop = λ m p. object-hidden w o f (rw q at p);
       } (reach-is _ _)
 
   -- all up to the limit are seen

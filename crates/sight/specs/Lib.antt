@@ -1,2 +1,3 @@
 pub mod Sight
 pub mod Operations
+pub mod Comparisons

@@ -1,11 +1,12 @@
-// docs/RULES.md, "What can be seen": sight from one station, and the sight profile.
+// docs/RULES.md, "What can be seen": the quick engine, for sight from one station and for the sight profile.
 ghost use mathlib.Core.Path.{_≡_};
 ghost use Prim.Native.Nat.{_+_, _≤_};
 ghost use lib.ListN.{length};
-ghost use Rattle.terms.specs.Limits.{greatestFarthest};
+ghost use Rattle.terms.specs.Limits.{greatestFarthest, greatestList};
 ghost use Rattle.whole.specs.Fill.{filled};
 ghost use Rattle.sight.specs.Sight.{availableSight};
 ghost use Rattle.sight.specs.Operations.{sightAnswer, profileAnswer, profileList};
+ghost use Rattle.sight.specs.Comparisons.{total, comparisons, comparisonsAnswer};
 use terms::Answer;
 use terms::Verdict;
 
@@ -13,7 +14,7 @@ use terms::Verdict;
 // All stations less than `next` metres ahead are seen. The steepest line to them goes from the eye to the road `run` metres
 // ahead, `rise` above the eye; before the first it goes straight down. It alone decides about the next station: an object on it or
 // above it is seen. Where the road there reaches the line, so does any object on it, and the line to that road is the steepest from
-// then on. Slopes are compared by products, `road / next` with `rise / run`.
+// then on. Slopes are compared by products, `road / next` with `rise / run`. The answer is how many sight lines were compared.
 fn fill_sights(
     heights: &[i32],
     first: usize,
@@ -22,12 +23,15 @@ fn fill_sights(
     o: u32,
     far: usize,
     sights: &mut [u16],
-)
-    requires { ⌜ (first + count ≤ length (now heights)) × (count ≤ length (now sights)) × (far ≤ greatestFarthest) ⌝ }
-    ensures { λ _. ⌜ now (sights .exit) ≡ filled (λ k. availableSight (now (heights .entry)) (first + k) e o far) 0 count (now (sights .entry)) ⌝ }
+) -> usize
+    requires fits { ⌜ (first + count ≤ length (now heights)) × (count ≤ length (now sights)) ⌝ }
+    requires within { ⌜ (count ≤ greatestList) × (far ≤ greatestFarthest) ⌝ }
+    ensures compared { λ r. ⌜ r ≡ total (λ k. comparisons (now (heights .entry)) (first + k) e o far) count ⌝ }
+    ensures list { λ _. ⌜ now (sights .exit) ≡ filled (λ k. availableSight (now (heights .entry)) (first + k) e o far) 0 count (now (sights .entry)) ⌝ }
 {
     let height = e as i64;
     let object = o as i64;
+    let mut compared: usize = 0;
     for k in 0..count {
         let i = first + k;
         let ahead = heights.len() - i;
@@ -43,10 +47,12 @@ fn fill_sights(
             let following = next + 1;
             let road = heights[i + next] as i64 - eye;
             let line = rise * (next as i64);
+            compared = compared + 1; // the line to the road with the steepest
             if line <= road * (run as i64) {
                 rise = road;
                 run = next;
             } else {
+                compared = compared + 1; // the line to the object with it
                 if (road + object) * (run as i64) < line {
                     break 'search next - 1;
                 }
@@ -55,6 +61,7 @@ fn fill_sights(
         };
         sights[k] = sight as u16;
     }
+    compared
 }
 
 // Sight from one station: the walk over this one.
@@ -70,6 +77,21 @@ pub fn sight(heights: &[i32], station: u32, eye: u32, object: u32, farthest: u32
     let mut one = [0u16; 1];
     fill_sights(heights, i, 1, eye, object, far, &mut one);
     Answer::Number(one[0] as u32)
+}
+
+// How many sight lines the search from one station compares.
+pub fn comparisons(heights: &[i32], station: u32, eye: u32, object: u32, farthest: u32) -> Answer
+    ensures { λ r. ⌜ r ≡ comparisonsAnswer (now (heights .entry)) station eye object farthest ⌝ }
+{
+    let verdict = verdicts::sight_verdict(heights.len(), station, eye, object, farthest);
+    if let Verdict::Fault(number) = verdict {
+        return Answer::Refused(number);
+    }
+    let i = station as usize;
+    let far = farthest as usize;
+    let mut one = [0u16; 1];
+    let compared = fill_sights(heights, i, 1, eye, object, far, &mut one);
+    Answer::Number(compared as u32)
 }
 
 // The sight profile: every station's sight.

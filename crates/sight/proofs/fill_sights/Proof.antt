@@ -1,8 +1,9 @@
 -- `fill_sights` meets its contract. The invariant of the search: the stations less than `next` metres ahead are all seen, none of
 -- them lies above the line to the road at `i + run`, and `rise` is how far that lies above the eye. The comparisons of the code are
--- those of the laws in proofs/Steepest.antt, as every height fits 32 bits and every distance is at most 8,000. The invariant of the
--- walk: the first `k` places are filled. The measures are what is left to the end.
-use mathlib.Core.Path.{_≡_, refl, _∙_}
+-- those of the laws in proofs/Steepest.antt, as every height fits 32 bits and every distance is at most 8,000; how many they are by then
+-- is proofs/Counted.antt's. The invariant of the walk: the first `k` places are filled, and the comparisons are those of `k` stations. The
+-- measures are what is left to the end.
+use mathlib.Core.Path.{_≡_, refl, ap, _∙_}
 use mathlib.Core.Bool.{true}
 use mathlib.Core.List.{List}
 use mathlib.Core.Logic.{⊎-elim}
@@ -19,32 +20,51 @@ use Rattle.whole.proofs.Range.{Reads, fitB, natB, addB, negB, asB, countB, coun
 use Rattle.whole.proofs.Machine.{le-yes, le-no, lt-yes, lt-no}
 use Rattle.terms.specs.Limits.{greatestFarthest}
 use Rattle.sight.specs.Sight.{heightAt, availableSight}
+use Rattle.sight.specs.Comparisons.{total, comparisons}
+use Rattle.sight.proofs.Counted.{
+  total-none,
+  total-next,
+  compared-most,
+  comparisons-walk,
+  Counted,
+  counted-none,
+  counted-once,
+  counted-twice,
+  counted-all,
+  counted-hidden,
+}
 use Rattle.sight.proofs.Reach.{sight-le-far}
 use Rattle.sight.proofs.Steepest.{rise, rise-under, Passed, passed-none, passed-steep, passed-seen, passed-hidden, passed-all}
 use Rattle.sight.proofs.fill_sights.Statement.{statement}
 use Rattle.sight.proofs.fill_sights.Tie as tie
 
-record Searched (list : List ℤ) (i e o end bits run next : ℕ) : Type 0 where
+record Searched (list : List ℤ) (i e o end before now bits run next : ℕ) : Type 0 where
   near : (end ≤ greatestFarthest + 1) × (i + end ≤ length list)
   within : next ≤ end
   fits : SFits w32 (heightAt list (i + run))
   rises : toZ w64 bits ≡ rise (heightAt list) e i run
   passed : Passed (heightAt list) e o i run next
+  counted : Counted list e i before now next
 
 abbrev Inv-search : tie.InvT-search
-Inv-search heights first count e o far sights height object k i ahead end eye rise₀ run₀ next₀ rise run next =
-    Searched heights i e o end rise run next
+Inv-search heights first count e o far sights height object compared₀ k i ahead end eye rise₀ run₀ next₀ compared rise run next =
+    Searched heights i e o end compared₀ compared rise run next
 
 abbrev μ-search : tie.MeasureT-search
-μ-search heights first count e o far sights height object k i ahead end eye rise₀ run₀ next₀ rise run next = end - next
+μ-search heights first count e o far sights height object compared₀ k i ahead end eye rise₀ run₀ next₀ compared rise run next = end - next
+
+record Walked (list : List ℤ) (first count e o far : ℕ) (before now : List ℕ) (compared k : ℕ) : Type 0 where
+  within : k ≤ count
+  as-long : length now ≡ length before
+  places : now ≡ filled (λ t. availableSight list (first + t) e o far) 0 k before
+  counted : compared ≡ total (λ t. comparisons list (first + t) e o far) k
 
 abbrev Inv-loop : tie.InvT-loop
-Inv-loop heights first count e o far sights₀ height object k₀ sights k =
-    (k ≤ count) × (length sights ≡ length sights₀)
-    × (sights ≡ filled (λ t. availableSight heights (first + t) e o far) 0 k sights₀)
+Inv-loop heights first count e o far sights₀ height object compared₀ k₀ sights compared k =
+    Walked heights first count e o far sights₀ sights compared k
 
 abbrev μ-loop : tie.MeasureT-loop
-μ-loop heights first count e o far sights₀ height object k₀ sights k = count - k
+μ-loop heights first count e o far sights₀ height object compared₀ k₀ sights compared k = count - k
 
 -- one station more, short of the end
 nearer : {next end : ℕ} → next ≤ end → (next ≡ end → ⊥) → (next + 1 ≤ end) × (end - (next + 1) < end - next)
@@ -60,9 +80,9 @@ record Known (list : List ℤ) (i e o bits run next : ℕ) : Type 0 where
   run-is : Reads (toZ w64 run) (pos run)
   rise-is : Reads (toZ w64 bits) (rise (heightAt list) e i run)
 
-abbrev known : {list : List ℤ} {i e o end bits run next : ℕ} → Searched list i e o end bits run next → e ≤ 2 ^ 32 → o ≤ 2 ^ 32 →
-    SFits w32 (heightAt list i) → SFits w32 (heightAt list (i + next)) → Known list i e o bits run next
-known {list} {i} {e} {o} {end} {bits} {run} {next} v le lo here there = record {
+abbrev known : {list : List ℤ} {i e o end before now bits run next : ℕ} → Searched list i e o end before now bits run next →
+    e ≤ 2 ^ 32 → o ≤ 2 ^ 32 → SFits w32 (heightAt list i) → SFits w32 (heightAt list (i + next)) → Known list i e o bits run next
+known {e = e} {o = o} {run = run} {next = next} v le lo here there = record {
   here = here;
   there = there;
   e-is = countR w64 e (2 ^ 32) le;
@@ -103,31 +123,50 @@ module _ (c : tie.After-road Inv-search μ-search Inv-loop μ-loop) where
       Known (s .heights .now) (at outer) (s .e) (s .o) (l .rise) (l .run) (l .next)
   at-next = known (head .search .inv) (omega arith) (omega arith) (sfits-of (outer .eye .given)) (sfits-of (c .road .given))
 
--- ---- the search yields the station's sight
+-- ---- the search yields the station's sight, with the station's comparisons
 -- the available sight from the station
 abbrev sightAt : tie.After-eye Inv-search μ-search Inv-loop μ-loop → ℕ
 sightAt c = let s = start c .args in availableSight (s .heights .now) (at c) (s .e) (s .o) (s .far)
 
+-- what is compared by the end of the search from it
+abbrev comparedAt : tie.After-eye Inv-search μ-search Inv-loop μ-loop → ℕ
+comparedAt c = let s = start c .args in walk c .loop .compared + comparisons (s .heights .now) (at c) (s .e) (s .o) (s .far)
+
 -- it comes to its end,
-all-seen : (c : tie.Then2 Inv-search μ-search Inv-loop μ-loop) → c .before .search .next - 1 ≡ sightAt (c .before .before)
-all-seen c = let l = c .before .search .inv in passed-all _ _ (l .passed) (omega (arith, end-is (c .before .before)))
+all-seen : (c : tie.Then2 Inv-search μ-search Inv-loop μ-loop) →
+    let h = c .before in (h .search .next - 1 ≡ sightAt (h .before)) × (h .search .compared ≡ comparedAt (h .before))
+all-seen c =
+    let h = c .before in let s = start (h .before) .args in let l = h .search .inv in
+    let end : h .search .next ≡ min (s .far) (length (s .heights .now) - 1 - at (h .before)) + 1 = omega (arith, end-is (h .before)) in
+    (passed-all _ _ (l .passed) end, counted-all (l .counted) (l .passed) _ end)
 
 -- or to a hidden station
 next-hidden : (c : tie.Then4 Inv-search μ-search Inv-loop μ-loop) →
-    let h = head (c .before .before) in h .search .next - 1 ≡ sightAt (h .before)
+    let h = head (c .before .before) in
+    (h .search .next - 1 ≡ sightAt (h .before)) × (h .search .compared + 1 + 1 ≡ comparedAt (h .before))
 next-hidden c =
-    let v = at-next (c .before .before) in let l = head (c .before .before) .search .inv in
-    passed-hidden _ _ (l .passed) (omega (arith, end-is (outer (c .before .before)))) (lt-yes (c .if4 .taken) (search reads depth 20) tt)
+    let h = head (c .before .before) in let s = start (h .before) .args in
+    let v = at-next (c .before .before) in let l = h .search .inv in
+    let end : h .search .next ≤ min (s .far) (length (s .heights .now) - 1 - at (h .before)) = omega (arith, end-is (h .before)) in (
+      passed-hidden _ _ (l .passed) end (lt-yes (c .if4 .taken) (search reads depth 20) tt),
+      counted-hidden (l .counted) (l .passed) _ end
+          (le-no (c .before .if3 .left) (search reads depth 20) tt)
+          (lt-yes (c .if4 .taken) (search reads depth 20) tt),
+    )
 
-sight-is : (c : tie.Joined2 Inv-search μ-search Inv-loop μ-loop) → c .if2 .sight ≡ sightAt (c .before .before)
-sight-is c =
+ended : (c : tie.Joined2 Inv-search μ-search Inv-loop μ-loop) →
+    (c .if2 .sight ≡ sightAt (c .before .before)) × (c .if2 .compared ≡ comparedAt (c .before .before))
+ended c =
     ⊎-elim
-    (λ w. omega (arith, w .2, w .0 .taken, all-seen record { before = c .before; if2 = w .0 }))
     (λ w.
-    w .4 ∙ next-hidden record {
+    let all = all-seen record { before = c .before; if2 = w .0 } in
+    (omega (arith, w .3, w .0 .taken, all .0), w .2 ∙ all .1))
+    (λ w.
+    let hidden = next-hidden record {
       before = record { before = record { before = record { before = c .before; if2 = w .0 }; road = w .1 }; if3 = w .2 };
       if4 = w .3;
-    })
+    } in
+    (w .5 ∙ hidden .0, w .4 ∙ hidden .1))
     (c .if2 .came)
 
 cast-height : tie.Need-cast-height Inv-search μ-search Inv-loop μ-loop
@@ -137,7 +176,7 @@ cast-object : tie.Need-cast-object Inv-search μ-search Inv-loop μ-loop
 cast-object c = search needs
 
 loop-holds : tie.Need-loop-holds Inv-search μ-search Inv-loop μ-loop
-loop-holds c = (omega arith, refl, filled-none _ 0 _)
+loop-holds c = record { within = omega arith; as-long = refl; places = filled-none _ 0 _; counted = total-none _ }
 
 add-i : tie.Need-add-i Inv-search μ-search Inv-loop μ-loop
 add-i c = record { fits = omega arith }
@@ -176,6 +215,7 @@ search-holds c =
       fits = rw under (sfits-of (c .eye .given));
       rises = same-by {z = pos 0 -ℤ pos (s .e)} (search reads depth 20) tt ∙ rise-under (heightAt (s .heights .now)) (s .e) (at c);
       passed = passed-none;
+      counted = counted-none _ _ _ _;
     }
 
 sub-sight : tie.Need-sub-sight Inv-search μ-search Inv-loop μ-loop
@@ -205,11 +245,25 @@ cast-line c = record { sfits = omega arith }
 mul-line : tie.Need-mul-line Inv-search μ-search Inv-loop μ-loop
 mul-line c = let v = at-next c in fits-by (search sizes depth 16) tt
 
+-- the count is small: from at most 100,001 stations at most 8,000 object stations are tried
+count-small : (c : tie.After-road Inv-search μ-search Inv-loop μ-loop) → head c .search .compared ≤ 2 ^ 32
+count-small c =
+    let s = start (outer c) .args in let w = walk (outer c) .loop in let l = head c .search in
+    let others = comparisons-walk (s .heights .now) (s .first) (s .e) (s .o) (s .far) (w .k) (omega arith) in
+    let own = compared-most (s .heights .now) (s .e) (at (outer c)) (l .next - 1) in
+    omega (arith, others, own, w .inv .within, w .inv .counted, l .inv .near, l .inv .within, l .inv .counted .sum)
+
+add-compared : tie.Need-add-compared Inv-search μ-search Inv-loop μ-loop
+add-compared c = record { fits = omega (arith, count-small c) }
+
 cast-if3 : tie.Need-cast-if3 Inv-search μ-search Inv-loop μ-loop
 cast-if3 c = record { sfits = omega (arith, head c .search .inv .passed .before) }
 
 mul-if3 : tie.Need-mul-if3 Inv-search μ-search Inv-loop μ-loop
 mul-if3 c = let v = at-next c in fits-by (search sizes depth 16) tt
+
+add-compared-2 : tie.Need-add-compared-2 Inv-search μ-search Inv-loop μ-loop
+add-compared-2 c = record { fits = omega (arith, count-small (c .before)) }
 
 add-if4 : tie.Need-add-if4 Inv-search μ-search Inv-loop μ-loop
 add-if4 c = let v = at-next (c .before) in fits-by (search sizes depth 16) tt
@@ -235,6 +289,7 @@ search-again c =
       fits = v .there;
       rises = same-by (search reads depth 20) tt;
       passed = passed-steep (l .passed) (le-yes (c .if3 .taken) (search reads depth 20) tt);
+      counted = counted-once (l .counted) (l .passed) (le-yes (c .if3 .taken) (search reads depth 20) tt);
     }
 
 search-less-2 : tie.Need-search-less-2 Inv-search μ-search Inv-loop μ-loop
@@ -251,13 +306,14 @@ search-again-2 c =
       passed = passed-seen (l .passed)
           (le-no (c .before .if3 .left) (search reads depth 20) tt)
           (lt-no (c .if4 .left) (search reads depth 20) tt);
+      counted = counted-twice (l .counted) (l .passed) (le-no (c .before .if3 .left) (search reads depth 20) tt);
     }
 
 cast-sights : tie.Need-cast-sights Inv-search μ-search Inv-loop μ-loop
 cast-sights c =
     let station = c .before .before .before in let s = start station .args in
     let le = sight-le-far (s .heights .now) (at station) (s .e) (s .o) (s .far) in
-    record { fits = omega (arith, sight-is (c .before)) }
+    record { fits = omega (arith, ended (c .before) .0) }
 
 mul-sights : tie.Need-mul-sights Inv-search μ-search Inv-loop μ-loop
 mul-sights c = record { fits = omega arith }
@@ -273,17 +329,23 @@ loop-less c = omega arith
 
 loop-again : tie.Need-loop-again Inv-search μ-search Inv-loop μ-loop
 loop-again c =
-    let station = c .before .before .before in let s = start station .args in let l = walk station .loop in (
-      search needs,
-      search needs,
-      filled-next (λ t. availableSight (s .heights .now) (s .first + t) (s .e) (s .o) (s .far)) (l .k) _ _ _ (l .inv .2) (sight-is (c .before)),
-    )
+    let station = c .before .before .before in let s = start station .args in let l = walk station .loop in
+    let sight : ℕ → ℕ = λ t. availableSight (s .heights .now) (s .first + t) (s .e) (s .o) (s .far) in
+    let count : ℕ → ℕ = λ t. comparisons (s .heights .now) (s .first + t) (s .e) (s .o) (s .far) in
+    record {
+      within = search needs;
+      as-long = search needs;
+      places = filled-next sight (l .k) _ _ _ (l .inv .places) (ended (c .before) .0);
+      counted = omega (arith, ended (c .before) .1, l .inv .counted, total-next count (l .k));
+    }
 
 same-length : tie.Need-same-length Inv-search μ-search Inv-loop μ-loop
 same-length c = search needs
 
 returns : tie.Need-returns Inv-search μ-search Inv-loop μ-loop
-returns c = filled-to _ 0 _ _ _ _ (omega arith) (c .before .loop .inv .2)
+returns c =
+    let l = c .before .loop .inv in
+    (l .counted ∙ ap (total _) (omega (arith, l .within)), filled-to _ 0 _ _ _ _ (omega (arith, l .within)) (l .places))
 
 pub fill-sights-spec : {M : Type 1} → statement M
 fill-sights-spec =
@@ -314,8 +376,10 @@ fill-sights-spec =
     sub-road
     cast-line
     mul-line
+    add-compared
     cast-if3
     mul-if3
+    add-compared-2
     add-if4
     cast-if4
     mul-if4

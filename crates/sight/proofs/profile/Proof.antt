@@ -40,10 +40,12 @@ returns-2 c =
     ends-no-room _ _ (length (s .heights .now)) (s .sights .now) (accepted (c .before)) (omega arith)
 
 fill-sights-requires : tie.Need-fill-sights-requires
-fill-sights-requires c κs = (omega arith, omega arith, profile-in-range _ _ _ _ (accepted (c .before .before)) .1 .farthest .1)
+fill-sights-requires c κs =
+    let inside = profile-in-range _ _ _ _ (accepted (c .before .before)) in
+    ((omega arith, omega arith), (inside .0 .1, inside .1 .farthest .1))
 
-cast-t15 : tie.Need-cast-t15
-cast-t15 c =
+cast-t14 : tie.Need-cast-t14
+cast-t14 c =
     let room = c .before .before .before .before in
     record { fits = omega (arith, profile-in-range _ _ _ _ (accepted (room .before)) .0) }
 
@@ -54,7 +56,7 @@ returns-3 : tie.Need-returns-3
 unfolding profileAnswer profileList
 returns-3 c =
     let room = c .before .before .before .before in
-    ends-filled (λ i. availableSight _ i _ _ _) _ _ _ _ (accepted (room .before)) (room .if1 .left) (simp zero-add at (c .before .before .fill-sights .ensures))
+    ends-filled (λ i. availableSight _ i _ _ _) _ _ _ _ (accepted (room .before)) (room .if1 .left) (simp zero-add at (c .before .before .fill-sights .ensures .1))
 
 pub profile-spec : {M : Type 1} → statement M
 profile-spec =
@@ -66,6 +68,6 @@ profile-spec =
     enum-told
     returns-2
     fill-sights-requires
-    cast-t15
+    cast-t14
     same-length
     returns-3)

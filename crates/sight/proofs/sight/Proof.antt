@@ -50,21 +50,21 @@ slice-aggregate-fill-sights c = search needs
 fill-sights-requires : tie.Need-fill-sights-requires
 fill-sights-requires c κs =
     let inside = sight-in-range _ _ _ _ _ (accepted (c .before)) in
-    (omega (arith, inside .0), omega arith, inside .2 .farthest .1)
+    ((omega (arith, inside .0), omega arith), (omega arith, inside .2 .farthest .1))
 
-array-read-t17 : tie.Need-array-read-t17
-array-read-t17 c = search needs
+array-read-t16 : tie.Need-array-read-t16
+array-read-t16 c = search needs
 
-cast-t18 : tie.Need-cast-t18
-cast-t18 c =
+cast-t17 : tie.Need-cast-t17
+cast-t17 c =
     let s = c .before .before .before .before .before .before .args in
     let le = sight-le-far (s .heights .now) (s .station) (s .eye) (s .object) (s .farthest) in
-    record { fits = omega (arith, one-is _ _ _ _ _ _ (c .before .fill-sights .ensures)) }
+    record { fits = omega (arith, one-is _ _ _ _ _ _ (c .before .fill-sights .ensures .1)) }
 
 returns-2 : tie.Need-returns-2
 unfolding sightAnswer
 returns-2 c =
-    rw (accepted (c .before .before .before)) (ap Number (one-is _ _ _ _ _ _ (c .before .fill-sights .ensures)))
+    rw (accepted (c .before .before .before)) (ap Number (one-is _ _ _ _ _ _ (c .before .fill-sights .ensures .1)))
 
 pub sight-spec : {M : Type 1} → statement M
 sight-spec =
@@ -76,6 +76,6 @@ sight-spec =
     enum-told
     slice-aggregate-fill-sights
     fill-sights-requires
-    array-read-t17
-    cast-t18
+    array-read-t16
+    cast-t17
     returns-2)
