@@ -13,6 +13,7 @@ use Rattle.heights.specs.Heights.{heightsAnswer, heightsList, ownHeights}
 use Rattle.verdicts.specs.Verdicts.{sightVerdict, lookVerdict, passingVerdict}
 use Rattle.sight.specs.Sight.{availableSight, sightFrom, reach, seen, everyBetween, every, clears}
 use Rattle.sight.specs.Operations.{sightAnswer}
+use Rattle.sight.specs.Comparisons.{total, tried, comparisonsAt, comparisons, comparisonsAnswer}
 use Rattle.road_distances.specs.RoadDistances.{leastGrade, roadDistances}
 use Rattle.marks.specs.Marks.{markOf}
 use Rattle.writing.specs.Bytes.{headerBytes, curveBytes, fileUpTo}
@@ -24,7 +25,7 @@ use Rattle.passing.specs.Passing.{passingMark, passingAnswer, passingList}
 use Rattle.cases.specs.Cases.{StarredCases, curve, roadFrom, roadOfVersion, roadFor, roadOf, levelRoad, highRoad, longCrest, valleyFile, crestFile, secondCrestFile, levelFile, otherFile, crestRoad, breaksRoad, heightAt, crestAndSag, shortCrest, leastAdequate, manoeuvre, passingOver}
 
 pub starred-cases : StarredCases
-unfolding requiredDistance metresFor levelMetres gradedMetres levelParts gradedParts upToFive passingDistance passingParts initialParts leftLaneParts oncomingParts manoeuvreOutside manoeuvre crestLength sagLength lengthVerdict leastAdequate leastEven longEnough reachesMinimum adequate withinRoot verdictUpTo numbersVerdict curvesVerdict curveVerdict heightAt ownHeights heightsList heightsAnswer filled storedHeight exactHeight exactFrom floorDiv breaksRoad crestAndSag crestRoad roadOf roadFor roadOfVersion roadFrom levelRoad highRoad longCrest curve valleyFile crestFile secondCrestFile levelFile otherFile numberAt stationBytes curveAt roadIn headerVerdict readVerdictUpTo headerBytes curveBytes fileUpTo writeAnswer writeList inVersion convertVerdict convertAnswer convertList changeVerdict withLength shortCrest previewAnswer previewFirst previewSecond previewVerdict differing roadDistances leastGrade distancesFor markOf sightVerdict lookVerdict sightAnswer availableSight sightFrom reach seen everyBetween every clears passingOver passingList passingAnswer passingVerdict passingMark
+unfolding requiredDistance metresFor levelMetres gradedMetres levelParts gradedParts upToFive passingDistance passingParts initialParts leftLaneParts oncomingParts manoeuvreOutside manoeuvre crestLength sagLength lengthVerdict leastAdequate leastEven longEnough reachesMinimum adequate withinRoot verdictUpTo numbersVerdict curvesVerdict curveVerdict heightAt ownHeights heightsList heightsAnswer filled storedHeight exactHeight exactFrom floorDiv breaksRoad crestAndSag crestRoad roadOf roadFor roadOfVersion roadFrom levelRoad highRoad longCrest curve valleyFile crestFile secondCrestFile levelFile otherFile numberAt stationBytes curveAt roadIn headerVerdict readVerdictUpTo headerBytes curveBytes fileUpTo writeAnswer writeList inVersion convertVerdict convertAnswer convertList changeVerdict withLength shortCrest previewAnswer previewFirst previewSecond previewVerdict differing roadDistances leastGrade distancesFor markOf sightVerdict lookVerdict sightAnswer availableSight sightFrom reach seen everyBetween every clears comparisonsAnswer comparisons comparisonsAt tried total passingOver passingList passingAnswer passingVerdict passingMark
 starred-cases = record {
   distances = (refl, refl, refl, refl, refl, refl);
   passing = (refl, refl, refl, refl);
@@ -39,5 +40,6 @@ starred-cases = record {
   changes = (refl, refl, refl, refl, refl, refl, refl, refl, refl, refl);
   previews = (refl, refl, refl, refl, refl, refl);
   sights = (refl, refl, refl);
+  comparisons = (refl, refl, refl, refl);
   passing-marks = (refl, refl, refl);
 }

@@ -22,6 +22,7 @@ use Rattle.file.specs.Reading.{readVerdict, shortReadVerdict}
 use Rattle.heights.specs.Profile.{storedHeight}
 use Rattle.heights.specs.Heights.{ownHeights}
 use Rattle.sight.specs.Operations.{sightAnswer}
+use Rattle.sight.specs.Comparisons.{comparisonsAnswer}
 use Rattle.conversion.specs.Conversion.{convertAnswer, convertList}
 use Rattle.change.specs.Change.{changeVerdict}
 use Rattle.preview.specs.Preview.{previewAnswer, previewFirst, previewSecond}
@@ -248,6 +249,13 @@ pub record StarredCases : Type 0 where
       (sightAnswer (pos 0 ∷ pos 20 ∷ pos 0 ∷ pos 100 ∷ []) 0 10 5 8 ≡ Number 1)
       × (sightAnswer (pos 0 ∷ pos 5 ∷ pos 0 ∷ []) 0 6 4 8 ≡ Number 2)
       × (sightAnswer (pos 0 ∷ pos 6 ∷ pos 0 ∷ []) 0 6 4 8 ≡ Number 1)
+  -- What can be seen: what the quick search compares there, up to the first hidden station, where all is seen, and on the level up to two
+  -- farthest distances
+  pub comparisons :
+      (comparisonsAnswer (pos 0 ∷ pos 20 ∷ pos 0 ∷ pos 100 ∷ []) 0 10 5 8 ≡ Number 3)
+      × (comparisonsAnswer (pos 0 ∷ pos 5 ∷ pos 0 ∷ []) 0 6 4 8 ≡ Number 3)
+      × (comparisonsAnswer (replicate 4 (pos 0)) 0 6 4 8 ≡ Number 3)
+      × (comparisonsAnswer (replicate 4 (pos 0)) 0 6 4 2 ≡ Number 2)
   -- Passing: the line touches the road, or is cut; and the road ends too soon
   pub passing-marks :
       (passingOver (pos 10800) 2 ≡ 0 ∷ 64 ∷ 64 ∷ [])

@@ -52,12 +52,15 @@ one-or-two list e i j = go (seen (heightAt list) e 0 i j)
     go true = record { most = omega arith; once = λ t. refl; twice = λ n. absurd (n tt) }
     go false = record { most = omega arith; once = λ t. absurd t; twice = λ n. refl }
 
+pub comparisons-at-most : (list : List ℤ) (e i j : ℕ) → comparisonsAt list e i j ≤ 2
+comparisons-at-most list e i j = one-or-two list e i j .most
+
 -- the comparisons for the first n object stations
 abbrev pub compared : List ℤ → ℕ → ℕ → ℕ → ℕ
 compared list e i n = total (λ t. comparisonsAt list e i (i + 1 + t)) n
 
 pub compared-most : (list : List ℤ) (e i n : ℕ) → compared list e i n ≤ n * 2
-compared-most list e i n = total-most (λ t. comparisonsAt list e i (i + 1 + t)) 2 n (λ t. one-or-two list e i (i + 1 + t) .most)
+compared-most list e i n = total-most (λ t. comparisonsAt list e i (i + 1 + t)) 2 n (λ t. comparisons-at-most list e i (i + 1 + t))
 
 compared-next : (list : List ℤ) (e i n : ℕ) → 0 < n →
     compared list e i (n + 1 - 1) ≡ compared list e i (n - 1) + comparisonsAt list e i (i + n)

@@ -1,0 +1,2 @@
+pub mod SameSights
+pub mod AtMostTwo
