@@ -1,0 +1,126 @@
+-- `available_sight` meets its contract. The invariant of the outer loop: the object is seen at every station up to `s` metres ahead, and
+-- `s` is within the limit. That of the inner loop: every station from `i + 1` on before `k` lets the line to the object at `j` pass. So
+-- where the inner loop comes to its end the object at `j` is seen, and where it is left it is hidden. At both ways out of the outer loop
+-- `sight-by` of proofs/Search.antt says that `s` is the available sight. The measures are what is left to the limit, and to `j`.
+use mathlib.Core.Path.{_≡_, sym, _∙_, subst}
+use mathlib.Core.Bool.{true, false, not}
+use mathlib.Core.Logic.{⊎-elim}
+use Prim.Native.Nat.{_+_, _-_, _≤_, _<_, min}
+use native.Mathlib.Omega.{arith}
+use borrow.Author.Needs.{needs}
+use borrow.Author.Tests.{not-true, not-false}
+use lib.Dec.{T}
+use lib.ListN.{length}
+use Rattle.slow_sight.proofs.Search.{Between, Passes, SeenAhead, one-more, seen-ahead, passes-ahead, sight-by}
+use Rattle.slow_sight.proofs.available_sight.Statement.{statement}
+use Rattle.slow_sight.proofs.available_sight.Tie as tie
+
+abbrev Inv-loop : tie.InvT-loop
+Inv-loop heights i e o far left limit s next j k₀ k = (i < k) × Between (Passes heights i e o next) i k
+
+abbrev μ-loop : tie.MeasureT-loop
+μ-loop heights i e o far left limit s next j k₀ k = j - k
+
+abbrev Inv-objects : tie.InvT-objects
+Inv-objects heights i e o far left limit s₀ s = (s ≤ limit) × Between (SeenAhead heights i e o) 0 (s + 1)
+
+abbrev μ-objects : tie.MeasureT-objects
+μ-objects heights i e o far left limit s₀ s = limit - s
+
+-- the limit is the lesser of the farthest distance and the stations left
+limit-is : (c : tie.At-objects Inv-loop μ-loop Inv-objects μ-objects) →
+    let s = c .before .before .args in c .before .if1 .limit ≡ min (s .far) (length (s .heights .now) - 1 - s .i)
+limit-is c = ⊎-elim (λ w. omega arith) (λ w. omega arith) (c .before .if1 .came)
+
+-- at a station between
+abbrev head : tie.At-loop Inv-loop μ-loop Inv-objects μ-objects → tie.At-objects Inv-loop μ-loop Inv-objects μ-objects
+head c = c .before .before
+
+abbrev PassesAt : tie.At-loop Inv-loop μ-loop Inv-objects μ-objects → Type 0
+PassesAt c = let s = head c .before .before .args in Passes (s .heights .now) (s .i) (s .e) (s .o) (head c .objects .s + 1) (c .loop .k)
+
+-- what the flag that `clears` answers tells of it
+module _ (c : tie.After-clears Inv-loop μ-loop Inv-objects μ-objects) where
+  passes : not (c .clears .result) ≡ false → PassesAt (c .before .before)
+  passes e = subst T (sym (not-false _ e) ∙ c .clears .ensures) tt
+
+  hides : not (c .clears .result) ≡ true → PassesAt (c .before .before) → ⊥
+  hides e = subst T (sym (c .clears .ensures) ∙ not-true _ e)
+
+sub-left : tie.Need-sub-left Inv-loop μ-loop Inv-objects μ-objects
+sub-left c = search needs
+
+sub-left-2 : tie.Need-sub-left-2 Inv-loop μ-loop Inv-objects μ-objects
+sub-left-2 c = search needs
+
+objects-holds : tie.Need-objects-holds Inv-loop μ-loop Inv-objects μ-objects
+objects-holds c = (omega arith, λ t l r. absurd (omega arith))
+
+add-next : tie.Need-add-next Inv-loop μ-loop Inv-objects μ-objects
+add-next c = record { fits = omega (arith, limit-is (c .before)) }
+
+add-j : tie.Need-add-j Inv-loop μ-loop Inv-objects μ-objects
+add-j c = record { fits = omega (arith, limit-is (c .before)) }
+
+add-k : tie.Need-add-k Inv-loop μ-loop Inv-objects μ-objects
+add-k c = search needs
+
+loop-holds : tie.Need-loop-holds Inv-loop μ-loop Inv-objects μ-objects
+loop-holds c = (omega arith, λ k l r. absurd (omega arith))
+
+clears-requires : tie.Need-clears-requires Inv-loop μ-loop Inv-objects μ-objects
+clears-requires c κs = let q = limit-is (head (c .before)) in (omega arith, omega arith, omega arith, omega arith)
+
+add-k-2 : tie.Need-add-k-2 Inv-loop μ-loop Inv-objects μ-objects
+add-k-2 c = record { fits = omega (arith, limit-is (head (c .before .before .before))) }
+
+loop-less : tie.Need-loop-less Inv-loop μ-loop Inv-objects μ-objects
+loop-less c = search needs
+
+loop-again : tie.Need-loop-again Inv-loop μ-loop Inv-objects μ-objects
+loop-again c = (omega arith, one-more (c .before .before .before .loop .inv .1) (passes (c .before) (c .if3 .left)))
+
+objects-less : tie.Need-objects-less Inv-loop μ-loop Inv-objects μ-objects
+objects-less c = search needs
+
+objects-again : tie.Need-objects-again Inv-loop μ-loop Inv-objects μ-objects
+objects-again c =
+    let l = c .before in let h = head l in let s = h .before .before .args in
+    let seen = seen-ahead (s .heights .now) (s .i) (s .e) (s .o) (h .objects .s + 1) (λ k b r. l .loop .inv .1 k b (omega arith)) in
+    (omega arith, one-more (h .objects .inv .1) seen)
+
+returns : tie.Need-returns Inv-loop μ-loop Inv-objects μ-objects
+returns c =
+    let h = c .before in let q = limit-is h in
+    sight-by _ _ _ _ _ (h .objects .s) (omega arith) (h .objects .inv .1) (λ m p. omega arith)
+
+returns-2 : tie.Need-returns-2 Inv-loop μ-loop Inv-objects μ-objects
+returns-2 c =
+    let l = c .before .before .before in let h = head l in let s = h .before .before .args in let q = limit-is h in
+    let each = passes-ahead (s .heights .now) (s .i) (s .e) (s .o) (h .objects .s + 1) in
+    sight-by _ _ _ _ _ (h .objects .s) (omega arith) (h .objects .inv .1)
+    (λ m p. hides (c .before) (c .if3 .taken) (each p (l .loop .k) (l .loop .inv .0) (omega arith)))
+
+pub available-sight-spec : {M : Type 1} → statement M
+available-sight-spec =
+    tie.close
+    (tie.spec
+    Inv-loop
+    μ-loop
+    Inv-objects
+    μ-objects
+    sub-left
+    sub-left-2
+    objects-holds
+    add-next
+    add-j
+    add-k
+    loop-holds
+    clears-requires
+    add-k-2
+    loop-less
+    loop-again
+    objects-less
+    objects-again
+    returns
+    returns-2)
