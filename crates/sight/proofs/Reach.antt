@@ -25,7 +25,7 @@ available-mono {limit} {s} {r} f a b =
     = λ l. b .stop (omega arith) (f (suc r) (omega arith) (omega arith) (a .all (suc r) (omega arith) (omega arith))) in
     omega arith
 
-pub available-unique : {P : ℕ → Type 0} {limit s r : ℕ} → Available P limit s → Available P limit r → s ≡ r
+available-unique : {P : ℕ → Type 0} {limit s r : ℕ} → Available P limit s → Available P limit r → s ≡ r
 available-unique a b = omega (arith, available-mono (λ t l m p. p) a b, available-mono (λ t l m p. p) b a)
 
 pub reach-is : (p : ℕ → Bool) (limit : ℕ) → Available (λ t. T (p t)) limit (reach p limit)
@@ -67,6 +67,12 @@ sight-mono i last far p q f =
 
 -- ---- the available sight
 module _ (list : List ℤ) (i e o : ℕ) where
+  -- nothing else has what holds of it
+  pub sight-by : (far : ℕ) {s : ℕ} → Available (λ t. T (seen (heightAt list) e o i (i + t))) (min far (length list - 1 - i)) s →
+      s ≡ availableSight list i e o far
+  unfolding availableSight sightFrom
+  sight-by far a = available-unique a (reach-is _ _)
+
   pub sight-le-far : (far : ℕ) → availableSight list i e o far ≤ far
   unfolding availableSight sightFrom
   sight-le-far far = omega (arith, reach-is (λ t. seen (heightAt list) e o i (i + t)) (min far (length list - 1 - i)) .within)

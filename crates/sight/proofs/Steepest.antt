@@ -2,9 +2,7 @@
 -- A line goes from the eye to a point t metres ahead. Its slope is its rise over t, and slopes are compared by products.
 use mathlib.Core.Path.{_≡_}
 use mathlib.Core.List.{List}
-use mathlib.Core.Logic.{⊎-elim}
 use Prim.Native.Nat.{ℕ, zero, suc, _+_, _-_, _≤_, _<_, min}
-use native.Mathlib.Nat.{eq-or-lt-of-le}
 use native.Mathlib.Omega.{arith}
 use lib.Dec.{T}
 use lib.IntN.{ℤ, pos, _+ℤ_, _-ℤ_, _*ℤ_}
@@ -12,9 +10,9 @@ use lib.ListN.{length}
 use lib.Signed.{_≤ℤ_, _<ℤ_, ≤ℤ-refl, clashℤ}
 use Rattle.whole.proofs.Int.{var, le-by, eq-by, le-to, lt-to, reps}
 use Rattle.whole.proofs.Ring.{≤ℤ-trans, ≤ℤ-of-<, *ℤ-mono, *ℤ-cancel, ring}
-use Rattle.sight.specs.Sight.{heightAt, seen, sightFrom, availableSight}
-use Rattle.sight.proofs.Reach.{available-unique, reach-is}
-use Rattle.sight.proofs.Seen.{Seen, seen-to, seen-by}
+use Rattle.sight.specs.Sight.{heightAt, seen, availableSight}
+use Rattle.sight.proofs.Reach.{sight-by}
+use Rattle.sight.proofs.Seen.{Between, one-more, Seen, seen-to, seen-by}
 
 -- ---- slopes
 -- a / k ≤ b / n
@@ -66,13 +64,13 @@ rise-under h e i =
 
 -- an object is seen where no line to a station before it is steeper than the line to it
 module _ (h : ℕ → ℤ) (e o i n : ℕ) where
-  pub seen-by-slopes : ((t : ℕ) → 0 < t → t < n → NoSteeper (rise h e i t) t (rise h e i n +ℤ pos o) n) → Seen h e o i (i + n)
+  pub seen-by-slopes : Between (λ t. NoSteeper (rise h e i t) t (rise h e i n +ℤ pos o) n) 0 n → Seen h e o i (i + n)
   seen-by-slopes f k l r =
       let p : i + (k - i) ≡ k = omega arith in let q : i + n - i ≡ n = omega arith in
       rw q (clears-by-slope (h i +ℤ pos e) (h (i + n)) (h k) (pos o) (i + n - k) (k - i) n (omega arith)
       (rw p at (f (k - i) (omega arith) (omega arith))))
 
-  pub slopes-by-seen : Seen h e o i (i + n) → (t : ℕ) → 0 < t → t < n → NoSteeper (rise h e i t) t (rise h e i n +ℤ pos o) n
+  pub slopes-by-seen : Seen h e o i (i + n) → Between (λ t. NoSteeper (rise h e i t) t (rise h e i n +ℤ pos o) n) 0 n
   slopes-by-seen g t l r =
       let p : i + t - i ≡ t = omega arith in let q : i + n - i ≡ n = omega arith in
       slope-by-clears (h i +ℤ pos e) (h (i + n)) (h (i + t)) (pos o) (i + n - (i + t)) t n (omega arith)
@@ -91,12 +89,8 @@ flatter-ahead h e i x (suc run) n f = omega arith
 pub record Passed (h : ℕ → ℤ) (e o i run next : ℕ) : Type 0 where
   pub ahead : 1 < next → 0 < run
   pub before : run < next
-  pub steepest : (t : ℕ) → 0 < t → t < next → NoSteeper (rise h e i t) t (rise h e i run) run
-  pub seen-all : (t : ℕ) → 0 < t → t < next → T (seen h e o i (i + t))
-
--- what holds before n and of n
-one-more : {P : ℕ → Type 0} {n : ℕ} → ((t : ℕ) → 0 < t → t < n → P t) → P n → (t : ℕ) → 0 < t → t < n + 1 → P t
-one-more {n} f p t l r = ⊎-elim (λ q. rw q p) (f t l) (eq-or-lt-of-le {n = t} {m = n} (omega arith))
+  pub steepest : Between (λ t. NoSteeper (rise h e i t) t (rise h e i run) run) 0 next
+  pub seen-all : Between (λ t. T (seen h e o i (i + t))) 0 next
 
 module _ {h : ℕ → ℤ} {e o i : ℕ} where
   pub passed-none : Passed h e o i 0 1
@@ -109,7 +103,7 @@ module _ {h : ℕ → ℤ} {e o i : ℕ} where
 
   module _ {run next : ℕ} (w : Passed h e o i run next) where
     -- no line to a station before is steeper than what is as steep as the steepest
-    none-steeper : (x : ℤ) → NoSteeper (rise h e i run) run x next → (t : ℕ) → 0 < t → t < next → NoSteeper (rise h e i t) t x next
+    none-steeper : (x : ℤ) → NoSteeper (rise h e i run) run x next → Between (λ t. NoSteeper (rise h e i t) t x next) 0 next
     none-steeper x f t l r =
         slope-trans (rise h e i t) x (rise h e i run) t run next (w .ahead (omega arith)) (w .steepest t l r) f
 
@@ -148,21 +142,19 @@ module _ (list : List ℤ) {e o i run next : ℕ} (far : ℕ) (w : Passed (heigh
   pub passed-hidden : next ≤ min far (length list - 1 - i) →
       Flatter (rise (heightAt list) e i next +ℤ pos o) next (rise (heightAt list) e i run) run →
       next - 1 ≡ availableSight list i e o far
-  unfolding availableSight sightFrom
   passed-hidden l f =
       let q : suc (next - 1) ≡ next = omega (arith, w .before) in
-      available-unique record {
+      sight-by list i e o far record {
         within = omega arith;
         all = λ t m r. w .seen-all t m (omega (arith, w .before));
         stop = λ m p. object-hidden w o f (rw q at p);
-      } (reach-is _ _)
+      }
 
   -- all up to the limit are seen
   pub passed-all : next ≡ min far (length list - 1 - i) + 1 → next - 1 ≡ availableSight list i e o far
-  unfolding availableSight sightFrom
   passed-all q =
-      available-unique record {
+      sight-by list i e o far record {
         within = omega arith;
         all = λ t l r. w .seen-all t l (omega arith);
         stop = λ m p. omega arith;
-      } (reach-is _ _)
+      }

@@ -1,17 +1,20 @@
 -- `available_sight` meets its contract. The invariant of the outer loop: the object is seen at every station up to `s` metres ahead, and
 -- `s` is within the limit. That of the inner loop: every station from `i + 1` on before `k` lets the line to the object at `j` pass. So
 -- where the inner loop comes to its end the object at `j` is seen, and where it is left it is hidden. At both ways out of the outer loop
--- `sight-by` of proofs/Search.antt says that `s` is the available sight. The measures are what is left to the limit, and to `j`.
+-- `sight-by` says that `s` is the available sight. The measures are what is left to the limit, and to `j`.
 use mathlib.Core.Path.{_≡_, sym, _∙_, subst}
 use mathlib.Core.Bool.{true, false, not}
 use mathlib.Core.Logic.{⊎-elim}
 use Prim.Native.Nat.{_+_, _-_, _≤_, _<_, min}
+use native.Mathlib.Numerals.{add-one}
 use native.Mathlib.Omega.{arith}
 use borrow.Author.Needs.{needs}
 use borrow.Author.Tests.{not-true, not-false}
 use lib.Dec.{T}
 use lib.ListN.{length}
-use Rattle.slow_sight.proofs.Search.{Between, Passes, SeenAhead, one-more, seen-ahead, passes-ahead, sight-by}
+use Rattle.sight.proofs.Reach.{sight-by}
+use Rattle.sight.proofs.Seen.{Between, one-more}
+use Rattle.slow_sight.proofs.Search.{Passes, SeenAhead, seen-ahead, passes-ahead}
 use Rattle.slow_sight.proofs.available_sight.Statement.{statement}
 use Rattle.slow_sight.proofs.available_sight.Tie as tie
 
@@ -91,15 +94,18 @@ objects-again c =
 
 returns : tie.Need-returns Inv-loop μ-loop Inv-objects μ-objects
 returns c =
-    let h = c .before in let q = limit-is h in
-    sight-by _ _ _ _ _ (h .objects .s) (omega arith) (h .objects .inv .1) (λ m p. omega arith)
+    let l = c .before .objects .inv in let q = limit-is (c .before) in
+    sight-by _ _ _ _ _ record { within = omega arith; all = λ t m r. l .1 t m (omega arith); stop = λ m p. omega arith }
 
 returns-2 : tie.Need-returns-2 Inv-loop μ-loop Inv-objects μ-objects
 returns-2 c =
     let l = c .before .before .before in let h = head l in let s = h .before .before .args in let q = limit-is h in
     let each = passes-ahead (s .heights .now) (s .i) (s .e) (s .o) (h .objects .s + 1) in
-    sight-by _ _ _ _ _ (h .objects .s) (omega arith) (h .objects .inv .1)
-    (λ m p. hides (c .before) (c .if3 .taken) (each p (l .loop .k) (l .loop .inv .0) (omega arith)))
+    sight-by _ _ _ _ _ record {
+      within = omega arith;
+      all = λ t m r. h .objects .inv .1 t m (omega arith);
+      stop = λ m p. hides (c .before) (c .if3 .taken) (each (rw (← add-one (h .objects .s)) at p) (l .loop .k) (l .loop .inv .0) (omega arith));
+    }
 
 pub available-sight-spec : {M : Type 1} → statement M
 available-sight-spec =
