@@ -10,7 +10,7 @@ use mathlib.Core.Logic.{⊎-elim}
 use Prim.Native.Nat.{ℕ, _+_, _-_, _≤_, _<_, _^_, min}
 use native.Mathlib.Omega.{arith}
 use borrow.Author.Needs.{needs, sfits-of}
-use lib.IntN.{ℤ, pos, _-ℤ_}
+use lib.IntN.{ℤ, pos, _+ℤ_, _-ℤ_}
 use lib.ListN.{length}
 use mir.Syntax.{w32, w64}
 use mir.Val.{SFits, toZ}
@@ -34,7 +34,7 @@ use Rattle.sight.proofs.Counted.{
   counted-hidden,
 }
 use Rattle.sight.proofs.Reach.{sight-le-far}
-use Rattle.sight.proofs.Steepest.{rise, rise-under, Passed, passed-none, passed-steep, passed-seen, passed-hidden, passed-all}
+use Rattle.sight.proofs.Steepest.{NoSteeper, Flatter, rise, rise-under, Passed, passed-none, passed-steep, passed-seen, passed-hidden, passed-all}
 use Rattle.sight.proofs.fill_sights.Statement.{statement}
 use Rattle.sight.proofs.fill_sights.Tie as tie
 
@@ -123,6 +123,24 @@ module _ (c : tie.After-road Inv-search μ-search Inv-loop μ-loop) where
       Known (s .heights .now) (at outer) (s .e) (s .o) (l .rise) (l .run) (l .next)
   at-next = known (head .search .inv) (omega arith) (omega arith) (sfits-of (outer .eye .given)) (sfits-of (c .road .given))
 
+  -- the line to a point t metres ahead
+  abbrev lineTo : ℕ → ℤ
+  lineTo t = let s = start outer .args in rise (heightAt (s .heights .now)) (s .e) (at outer) t
+
+-- ---- what the comparisons tell
+road-above : (c : tie.Then3 Inv-search μ-search Inv-loop μ-loop) →
+    let l = head (c .before) .search in NoSteeper (lineTo (c .before) (l .run)) (l .run) (lineTo (c .before) (l .next)) (l .next)
+road-above c = let v = at-next (c .before) in le-yes (c .if3 .taken) (search reads depth 20) tt
+
+road-below : (c : tie.Else3 Inv-search μ-search Inv-loop μ-loop) →
+    let l = head (c .before) .search in Flatter (lineTo (c .before) (l .next)) (l .next) (lineTo (c .before) (l .run)) (l .run)
+road-below c = let v = at-next (c .before) in le-no (c .if3 .left) (search reads depth 20) tt
+
+object-below : (c : tie.Then4 Inv-search μ-search Inv-loop μ-loop) →
+    let a = c .before .before in let l = head a .search in
+    Flatter (lineTo a (l .next) +ℤ pos (start (outer a) .args .o)) (l .next) (lineTo a (l .run)) (l .run)
+object-below c = let v = at-next (c .before .before) in lt-yes (c .if4 .taken) (search reads depth 20) tt
+
 -- ---- the search yields the station's sight, with the station's comparisons
 -- the available sight from the station
 abbrev sightAt : tie.After-eye Inv-search μ-search Inv-loop μ-loop → ℕ
@@ -146,13 +164,9 @@ next-hidden : (c : tie.Then4 Inv-search μ-search Inv-loop μ-loop) →
     (h .search .next - 1 ≡ sightAt (h .before)) × (h .search .compared + 1 + 1 ≡ comparedAt (h .before))
 next-hidden c =
     let h = head (c .before .before) in let s = start (h .before) .args in
-    let v = at-next (c .before .before) in let l = h .search .inv in
-    let end : h .search .next ≤ min (s .far) (length (s .heights .now) - 1 - at (h .before)) = omega (arith, end-is (h .before)) in (
-      passed-hidden _ _ (l .passed) end (lt-yes (c .if4 .taken) (search reads depth 20) tt),
-      counted-hidden (l .counted) (l .passed) _ end
-          (le-no (c .before .if3 .left) (search reads depth 20) tt)
-          (lt-yes (c .if4 .taken) (search reads depth 20) tt),
-    )
+    let l = h .search .inv in let below = object-below c in
+    let end : h .search .next ≤ min (s .far) (length (s .heights .now) - 1 - at (h .before)) = omega (arith, end-is (h .before)) in
+    (passed-hidden _ _ (l .passed) end below, counted-hidden (l .counted) (l .passed) _ end (road-below (c .before)) below)
 
 ended : (c : tie.Joined2 Inv-search μ-search Inv-loop μ-loop) →
     (c .if2 .sight ≡ sightAt (c .before .before)) × (c .if2 .compared ≡ comparedAt (c .before .before))
@@ -288,8 +302,8 @@ search-again c =
       within = nearer (l .within) (c .before .before .if2 .left) .0;
       fits = v .there;
       rises = same-by (search reads depth 20) tt;
-      passed = passed-steep (l .passed) (le-yes (c .if3 .taken) (search reads depth 20) tt);
-      counted = counted-once (l .counted) (l .passed) (le-yes (c .if3 .taken) (search reads depth 20) tt);
+      passed = passed-steep (l .passed) (road-above c);
+      counted = counted-once (l .counted) (l .passed) (road-above c);
     }
 
 search-less-2 : tie.Need-search-less-2 Inv-search μ-search Inv-loop μ-loop
@@ -303,10 +317,8 @@ search-again-2 c =
       within = nearer (l .within) (c .before .before .before .if2 .left) .0;
       fits = l .fits;
       rises = l .rises;
-      passed = passed-seen (l .passed)
-          (le-no (c .before .if3 .left) (search reads depth 20) tt)
-          (lt-no (c .if4 .left) (search reads depth 20) tt);
-      counted = counted-twice (l .counted) (l .passed) (le-no (c .before .if3 .left) (search reads depth 20) tt);
+      passed = passed-seen (l .passed) (road-below (c .before)) (lt-no (c .if4 .left) (search reads depth 20) tt);
+      counted = counted-twice (l .counted) (l .passed) (road-below (c .before));
     }
 
 cast-sights : tie.Need-cast-sights Inv-search μ-search Inv-loop μ-loop
