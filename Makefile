@@ -17,7 +17,7 @@ ROAD ?= roads/three-crests.vcp
 PREFIX ?= /usr/local
 
 # The proved crates that Rust links, and what they are proved and built from.
-LIBRARIES := van curve_exports sight_exports marks_exports passing_exports file_exports road_exports preview_exports listing_exports conversion_exports
+LIBRARIES := van curve_exports sight_exports engine_exports marks_exports passing_exports file_exports road_exports preview_exports listing_exports conversion_exports
 SOURCES := crates.txt $(shell find crates -type f)
 
 # Proves every crate from nothing, tries every must-fail edit and runs the lister; then links the proved functions into

@@ -6,6 +6,7 @@ fn main() {
     link(&[
         "curve_exports",
         "sight_exports",
+        "engine_exports",
         "marks_exports",
         "passing_exports",
         "file_exports",

@@ -6,6 +6,7 @@ const EXPORTS: [&str; 2] = [
     concat!(
         include_str!("../../crates/curve_exports/src/lib.rt"),
         include_str!("../../crates/sight_exports/src/lib.rt"),
+        include_str!("../../crates/engine_exports/src/lib.rt"),
         include_str!("../../crates/marks_exports/src/lib.rt"),
         include_str!("../../crates/passing_exports/src/lib.rt"),
         include_str!("../../crates/file_exports/src/lib.rt"),
@@ -116,7 +117,7 @@ fn differing([rattle, rust]: [&str; 2]) -> Vec<String> {
 
 #[test]
 fn declarations_are_those_of_the_proved_crates() {
-    for (pair, many) in [(VAN, 3), (EXPORTS, 17)] {
+    for (pair, many) in [(VAN, 3), (EXPORTS, 19)] {
         assert_eq!(exported(pair[0]).len(), many);
         assert_eq!(differing(pair), [""; 0], "{:#?}\n{:#?}", exported(pair[0]), declared(pair[1]));
     }

@@ -158,6 +158,7 @@ fn every_contract_is_in_the_table() {
         BTreeSet::from([
             "conversion_exports",
             "curve_exports",
+            "engine_exports",
             "listing_exports",
             "marks_exports",
             "passing_exports",

@@ -1,6 +1,6 @@
 //! The proved operations that the van does not call, safe to call from the command `vcp` and from the tests: the functions
-//! of the crates `curve_exports`, `sight_exports`, `marks_exports`, `passing_exports`, `file_exports`, `road_exports`,
-//! `preview_exports`, `listing_exports` and `conversion_exports`.
+//! of the crates `curve_exports`, `sight_exports`, `engine_exports`, `marks_exports`, `passing_exports`, `file_exports`,
+//! `road_exports`, `preview_exports`, `listing_exports` and `conversion_exports`.
 //!
 //! Units are those of docs/RULES.md: metres along the road, h-units (tenths of a millimetre) for heights, hundredths of a
 //! percent for grades, uphill positive, and km/h; those of passing stand at [`Manoeuvre`].
@@ -61,6 +61,23 @@ extern "C" {
     fn vcp_sight(heights: *const i32, heights_length: usize, station: u32, eye: u32, object: u32, farthest: u32)
         -> i64;
     fn vcp_sight_profile(
+        heights: *const i32,
+        heights_length: usize,
+        eye: u32,
+        object: u32,
+        farthest: u32,
+        sights: *mut u16,
+        sights_length: usize,
+    ) -> i64;
+    fn vcp_slow_sight(
+        heights: *const i32,
+        heights_length: usize,
+        station: u32,
+        eye: u32,
+        object: u32,
+        farthest: u32,
+    ) -> i64;
+    fn vcp_slow_sight_profile(
         heights: *const i32,
         heights_length: usize,
         eye: u32,
@@ -157,6 +174,39 @@ pub fn sight_profile(heights: &[i32], look: Look, sights: &mut [u16]) -> Result<
     // SAFETY: each pointer is that of a slice and comes with its length; a mutable borrow overlaps no other; neither is kept.
     refusal::answer(unsafe {
         vcp_sight_profile(heights.as_ptr(), heights.len(), eye, object, farthest, sights.as_mut_ptr(), sights.len())
+    })
+}
+
+/// The same as [`sight`], worked out the slow way, which anyone can follow: for each object station up to the first hidden one,
+/// every station between is looked at, and nothing is remembered from one to the next. The answer is the same, refusals included;
+/// the time is not. It grows with the square of the sight, where that of [`sight`] grows with the sight.
+///
+/// # Errors
+/// Refused as [`sight`] is.
+pub fn slow_sight(heights: &[i32], station: u32, look: Look) -> Result<u32, Refusal> {
+    let Look { eye, object, farthest } = look;
+    // SAFETY: as for `sight`.
+    refusal::answer(unsafe { vcp_slow_sight(heights.as_ptr(), heights.len(), station, eye, object, farthest) })
+}
+
+/// The same as [`sight_profile`], each sight worked out as [`slow_sight`] does. The answer and the list are the same, the time is
+/// not: 8,000 m of a level road take minutes where the farthest distance is 8,000.
+///
+/// # Errors
+/// Refused as [`sight_profile`] is.
+pub fn slow_sight_profile(heights: &[i32], look: Look, sights: &mut [u16]) -> Result<u32, Refusal> {
+    let Look { eye, object, farthest } = look;
+    // SAFETY: as for `sight_profile`.
+    refusal::answer(unsafe {
+        vcp_slow_sight_profile(
+            heights.as_ptr(),
+            heights.len(),
+            eye,
+            object,
+            farthest,
+            sights.as_mut_ptr(),
+            sights.len(),
+        )
     })
 }
 
