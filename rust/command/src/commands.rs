@@ -119,9 +119,24 @@ sight is there and decision sight is not.",
         prints: "the available sight from each station, as CSV",
         details: "\
 Stations and sight are in m, in the direction of rising stations. Sight ends
-where the object is hidden first, at the farthest distance, or with the road.",
+where the object is hidden first, at the farthest distance, or with the road.
+The slow engine gives the same sights in a way that anyone can follow: for each
+object station every station between is looked at, with nothing remembered. Its
+time grows with the square of the sight, and a whole road may take it minutes:
+give --farthest, or --from and --to. With --both the sights of the quick and of
+the slow engine stand side by side, and a line on standard error says that they
+agree; where they do not, it says so, and the status is 2.",
         operands: ONE_FILE,
-        options: &[EYE, OBJECT, choice("--farthest", "M", "how far is looked at most (8000)"), FROM, TO, OUTPUT],
+        options: &[
+            EYE,
+            OBJECT,
+            choice("--farthest", "M", "how far is looked at most (8000)"),
+            FROM,
+            TO,
+            flag("--slow", "by the slow engine"),
+            flag("--both", "by both engines"),
+            OUTPUT,
+        ],
         run: tables::sight,
     },
     Command {

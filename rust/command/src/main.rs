@@ -8,6 +8,7 @@ mod arguments;
 mod columns;
 mod commands;
 mod drawing;
+mod engines;
 mod help;
 mod input;
 mod judgement;
@@ -30,12 +31,17 @@ use crate::commands::COMMANDS;
 use crate::output::Output;
 use crate::trouble::{Trouble, ANSWERED};
 
-/// The lines of what went wrong, on standard error. Where that cannot be written either, the status still tells.
-fn complain(trouble: &Trouble) {
+/// Lines on standard error. Where they cannot be written, the status still tells.
+fn say(lines: &[String]) {
     let mut errors = io::stderr().lock();
-    for line in trouble.lines() {
+    for line in lines {
         let _ = writeln!(errors, "{line}");
     }
+}
+
+/// Says what went wrong.
+fn complain(trouble: &Trouble) {
+    say(trouble.lines());
 }
 
 /// The status of what ended, with a complaint where it went wrong.

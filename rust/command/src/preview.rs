@@ -13,7 +13,7 @@ use crate::input;
 use crate::judgement::{Ends, Preview, Zones, LETTERS};
 use crate::output::{self, Output};
 use crate::report::{row, stations_in, subject, zone, zone_rows, NOWHERE};
-use crate::trouble::{shown, Trouble, ANSWERED};
+use crate::trouble::{even_unread, shown, Trouble, ANSWERED};
 
 /// A zone before and one after, where there is one.
 type Pair = [Option<[u32; 2]>; 2];
@@ -138,10 +138,7 @@ fn file_of_changed(given: &Given) -> Result<Option<&Path>, Trouble> {
 /// Prints the answer, and then writes the changed road, so that there is no file of what could not be printed. Whoever closes the
 /// pipe has seen enough, and the file is still wanted.
 fn print_and_write(output: &mut Output, answer: &str, file: Option<&Path>, changed: &[u8]) -> Result<u8, Trouble> {
-    match output.write(answer.as_bytes()).and_then(|()| output.flush()) {
-        Ok(()) | Err(Trouble::Unread) => {}
-        Err(trouble) => return Err(trouble),
-    }
+    even_unread(output.write(answer.as_bytes()).and_then(|()| output.flush()))?;
     if let Some(path) = file {
         output::write_file(path, changed).map_err(|error| Trouble::with_file(path, &error))?;
     }

@@ -1,22 +1,25 @@
 //! Tables of one row a station, as CSV.
 
-use std::iter::StepBy;
-use std::ops::RangeInclusive;
+use std::fmt::Display;
 
 use exports::{Look, EYE_HEIGHT, GREATEST_FARTHEST, LONG_STATIONS, OBJECT_HEIGHT};
 use roadtext::decimal;
 
 use crate::answers::write_answer;
 use crate::arguments::{Given, HEIGHT, WHOLE};
-use crate::input;
+use crate::engines::{self, Seen, Stations};
 use crate::output::Output;
-use crate::trouble::Trouble;
+use crate::trouble::{even_unread, shown, Trouble, ANSWERED};
+use crate::{input, say};
 
 /// The header of heights.
 pub const HEIGHTS_HEADER: &str = "station_m,height_m";
 
 /// The header of sights.
 const SIGHTS_HEADER: &str = "station_m,sight_m";
+
+/// The header of the sights of both engines.
+const BOTH_HEADER: &str = "station_m,sight_m,slow_sight_m";
 
 /// The heights of a road file.
 pub fn heights_of(file: &[u8]) -> Result<Vec<i32>, exports::Refusal> {
@@ -49,7 +52,7 @@ impl Stretch {
     }
 
     /// Its stations, of a road with a last one.
-    fn stations(&self, given: &Given, last: usize) -> Result<StepBy<RangeInclusive<usize>>, Trouble> {
+    fn stations(&self, given: &Given, last: usize) -> Result<Stations, Trouble> {
         let Stretch { from, to, every } = *self;
         let beyond = |name: &str| given.wrong(format!("{name}: the last station is {last}"));
         if from as usize > last {
@@ -67,12 +70,11 @@ fn write_table(
     given: &Given,
     output: &mut Output,
     header: &str,
-    stations: impl Iterator<Item = usize>,
-    value: impl Fn(usize) -> String,
+    rows: impl Iterator<Item = (usize, impl Display)>,
 ) -> Result<u8, Trouble> {
     let mut table = format!("{header}\n");
-    for station in stations {
-        table += &format!("{station},{}\n", value(station));
+    for (station, value) in rows {
+        table += &format!("{station},{value}\n");
     }
     write_answer(given, output, table.as_bytes())
 }
@@ -82,7 +84,17 @@ pub fn heights(given: &Given, output: &mut Output) -> Result<u8, Trouble> {
     let stretch = Stretch::read(given)?;
     let heights = heights_of(&input::road_file(given.file())?).map_err(Trouble::refused(given.file()))?;
     let stations = stretch.stations(given, heights.len() - 1)?;
-    write_table(given, output, HEIGHTS_HEADER, stations, |station| decimal::write(heights[station].into(), 4, 4))
+    let rows = stations.map(|station| (station, decimal::write(heights[station].into(), 4, 4)));
+    write_table(given, output, HEIGHTS_HEADER, rows)
+}
+
+/// Writes what both engines see, side by side, and then says that they agree. Whoever closes the pipe has seen enough of the table,
+/// and whether they agree is still wanted.
+fn write_both(given: &Given, output: &mut Output, seen: &[Seen]) -> Result<u8, Trouble> {
+    let rows = seen.iter().map(|Seen { station, quick, slow }| (*station, format!("{quick},{slow}")));
+    even_unread(write_table(given, output, BOTH_HEADER, rows).and_then(|_| output.flush()))?;
+    say(&[engines::agreement(&shown(given.file()), seen)?]);
+    Ok(ANSWERED)
 }
 
 /// `vcp sight`.
@@ -93,10 +105,17 @@ pub fn sight(given: &Given, output: &mut Output) -> Result<u8, Trouble> {
         farthest: given.number("--farthest", WHOLE, GREATEST_FARTHEST)?,
     };
     let stretch = Stretch::read(given)?;
+    let (slow, both) = (given.is_there("--slow"), given.is_there("--both"));
+    if slow && both {
+        return Err(given.wrong("--slow does not go with --both"));
+    }
     let refused = Trouble::refused(given.file());
     let heights = heights_of(&input::road_file(given.file())?).map_err(&refused)?;
     let stations = stretch.stations(given, heights.len() - 1)?;
-    let mut sights = vec![0; heights.len()];
-    exports::sight_profile(&heights, look, &mut sights).map_err(&refused)?;
-    write_table(given, output, SIGHTS_HEADER, stations, |station| sights[station].to_string())
+    if both {
+        return write_both(given, output, &engines::both(&heights, look, stations).map_err(&refused)?);
+    }
+    let engine = if slow { engines::slow } else { engines::quick };
+    let sights = engine(&heights, look, stations.clone()).map_err(&refused)?;
+    write_table(given, output, SIGHTS_HEADER, stations.zip(sights))
 }

@@ -67,6 +67,14 @@ impl Trouble {
     }
 }
 
+/// Goes on where nobody reads the output any more, since there is something else that is wanted.
+pub fn even_unread(written: Result<(), Trouble>) -> Result<(), Trouble> {
+    match written {
+        Err(Trouble::Unread) => Ok(()),
+        written => written,
+    }
+}
+
 /// A file's name on one line, whatever it holds.
 pub fn shown(path: &Path) -> String {
     let name = path.to_string_lossy();
