@@ -1,11 +1,12 @@
 //! What the tests share: the second calculation that the proved functions are compared with, the comparing of lent lists,
-//! the lister, the documents, what is drawn of a road, generators of inputs and counts.
+//! the engines of sight, the lister, the documents, what is drawn of a road, generators of inputs and counts.
 
 use exports::Refusal;
 
 use crate::reference::Answer;
 
 pub mod drawn;
+pub mod engines;
 pub mod heights;
 pub mod lent;
 pub mod lister;

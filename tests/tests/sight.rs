@@ -1,9 +1,9 @@
-//! docs/RULES.md, "What can be seen": sight over lent heights, over those of roads of either version, and on the exact parabolas
-//! and straights.
+//! docs/RULES.md, "What can be seen": sight by either engine over lent heights, over those of roads of either version, and on the
+//! exact parabolas and straights.
 
 use std::ops::RangeInclusive;
 
-use sight_tests::bare;
+use sight_tests::engines::{ENGINES, QUICK};
 use sight_tests::heights;
 use sight_tests::lent;
 use sight_tests::random::Random;
@@ -21,28 +21,35 @@ fn look(eye: u32, object: u32, farthest: u32) -> Look {
     Look { eye, object, farthest }
 }
 
-/// The same, as the proved functions are asked.
-fn asked(look: Look) -> exports::Look {
-    exports::Look { eye: look.eye, object: look.object, farthest: look.farthest }
-}
-
 /// A look in which low eyes and objects are as likely as high ones.
 fn any_look(random: &mut Random, farthest: u32) -> Look {
     look(random.of_any_size(50_000), random.of_any_size(50_000), random.of_any_size(farthest))
 }
 
-/// The program's sight from one station, which is that of the second calculation.
+/// Either engine gives this for the sight from a station.
+fn expect_sight(heights: &[i32], station: u32, look: Look, answer: Answer) {
+    for engine in ENGINES {
+        let own = engine.sight(heights, station, look);
+        assert_eq!(own, answer, "{} engine, station {station}, {look:?}, {heights:?}", engine.name);
+    }
+}
+
+/// The sight from one station of either engine, which is that of the second calculation.
 fn compare_sight(heights: &[i32], station: u32, look: Look) -> Answer {
-    let answer = bare(exports::sight(heights, station, asked(look)));
-    assert_eq!(answer, sight(heights, station, look), "station {station}, {look:?}, {heights:?}");
+    let answer = sight(heights, station, look);
+    expect_sight(heights, station, look, answer);
     answer
 }
 
-/// The program fills `places` numbers with sights just as the second calculation does, and the rest stays.
+/// Either engine fills `places` numbers with sights just as the second calculation does, and the rest stays.
 fn compare_profile(random: &mut Random, heights: &[i32], look: Look, places: usize) -> (Answer, Vec<u16>) {
-    let proved = |list: &mut [u16]| bare(exports::sight_profile(heights, asked(look), list));
+    let before = random.list(places, |bits| bits as u16);
     let second = |list: &mut [u16]| sight_profile(heights, look, list);
-    lent::compare(&random.list(places, |bits| bits as u16), proved, second, format_args!("{look:?}, {heights:?}"))
+    let [compared, _] = ENGINES.map(|engine| {
+        let proved = |list: &mut [u16]| engine.profile(heights, look, list);
+        lent::compare(&before, proved, second, format_args!("{} engine, {look:?}, {heights:?}", engine.name))
+    });
+    compared
 }
 
 /// Compares the sight profile and the sight from each single station, which must agree. Answers the sights.
@@ -54,11 +61,7 @@ fn compare_all(random: &mut Random, heights: &[i32], look: Look) -> Vec<u16> {
     assert_eq!(compare_profile(random, heights, look, stations - 1).0, Err(14));
     sights.truncate(stations);
     for (station, &there) in (0..).zip(&sights) {
-        assert_eq!(
-            exports::sight(heights, station, asked(look)),
-            Ok(there.into()),
-            "station {station}, {look:?}, {heights:?}"
-        );
+        expect_sight(heights, station, look, Ok(there.into()));
     }
     sights
 }
@@ -197,7 +200,7 @@ fn random_runs_of_short_crests_far_out() {
         let heights = heights::of_road(&road);
         let look = if random.once_in(2) { look(EYE, OBJECT, 80) } else { any_look(&mut random, 100) };
         let mut sights = vec![0; heights.len()];
-        assert_eq!(exports::sight_profile(&heights, asked(look), &mut sights), Ok(road.length + 1));
+        assert_eq!(QUICK.profile(&heights, look, &mut sights), Ok(road.length + 1));
         for station in about_the_curves(&road, 80) {
             let there = u32::from(sights[station]);
             assert_eq!(compare_sight(&heights, station as u32, look), Ok(there), "{road:?}");
@@ -313,15 +316,16 @@ struct Accuracy {
 }
 
 impl Accuracy {
-    /// From these stations the program's sight lies between the sight on the exact profile with eye and object each a tenth of a
-    /// millimetre lower, and with each as much higher.
+    /// From these stations the sight of either engine lies between the sight on the exact profile with eye and object each a tenth
+    /// of a millimetre lower, and with each as much higher.
     fn expect(&mut self, road: &Road, look: Look, stations: RangeInclusive<usize>) {
-        let mut sights = vec![0; road.length as usize + 1];
-        assert_eq!(exports::sight_profile(&heights::of_road(road), asked(look), &mut sights), Ok(road.length + 1));
+        let (heights, mut sights) = (heights::of_road(road), vec![0; road.length as usize + 1]);
+        assert_eq!(QUICK.profile(&heights, look, &mut sights), Ok(road.length + 1));
         let exact = exact_heights(road);
         let lower = Look { eye: look.eye - 1, object: look.object - 1, ..look };
         let higher = Look { eye: look.eye + 1, object: look.object + 1, ..look };
         for i in stations {
+            expect_sight(&heights, i as u32, look, Ok(sights[i].into()));
             let there = usize::from(sights[i]);
             let least = available_sight(&exact, lower, i);
             let most = available_sight(&exact, higher, i);
