@@ -331,6 +331,26 @@ fn answers_and_complaints_in_order() {
     assert_eq!(fs::read_to_string(folder.join("both")).unwrap(), format!("{listing}{refused}{listing}"));
 }
 
+/// That both engines agree is said behind their table, also where nobody reads that any more, and not where it cannot be written.
+#[test]
+fn agreement_behind_the_table() {
+    let folder = with_inputs("habits_agreement");
+    let call = ["sight", "three-crests.vcp", "--both"];
+    let agreement = "three-crests.vcp: both engines agree at all 1501 stations from 0 to 1500\n".to_string();
+    let table = run(&folder, &call).output;
+    let both = File::create(folder.join("both")).expect("a file can be made");
+    let mut running = command();
+    running.args(call).current_dir(&folder);
+    running.stdout(both.try_clone().expect("a file has two handles")).stderr(both);
+    assert_eq!(running.status().expect("the command ends").code(), Some(0));
+    assert_eq!(fs::read_to_string(folder.join("both")).unwrap(), format!("{table}{agreement}"));
+    let closed = OwnedFd::from(UnixStream::pair().expect("two ends of a pipe").0);
+    assert_eq!(into(&folder, &call, closed), (Some(0), agreement));
+    let full = File::options().write(true).open("/dev/full").expect("the system has a full device");
+    let line = "standard output: No space left on device\n".to_string();
+    assert_eq!(into(&folder, &call, full), (Some(2), line));
+}
+
 /// A road file is not written to a terminal, which is standard output where -o does not name a file. It goes into the file that -o
 /// names, and to wherever else standard output leads.
 #[test]
@@ -409,12 +429,20 @@ fn help_is_true() {
         let help = help(name);
         help.lines().find(|line| line.trim_start().starts_with(option)).expect("the option has a row").to_string()
     };
+    let words = |name: &str| help(name).split_whitespace().collect::<Vec<_>>().join(" ");
     let metres = |height: u32| format!("({})", roadtext::decimal::write(height.into(), 4, 2));
     for name in ["sight", "crest"] {
         assert!(row(name, "--eye").ends_with(&metres(exports::EYE_HEIGHT)), "{name}");
         assert!(row(name, "--object").ends_with(&metres(exports::OBJECT_HEIGHT)), "{name}");
     }
     assert!(row("sight", "--farthest").ends_with(&format!("({})", exports::GREATEST_FARTHEST)));
+    for part in [
+        "for each object station every station between is looked at, with nothing remembered.",
+        "Its time grows with the square of the sight, and a whole road may take it minutes: give --farthest, or --from and --to.",
+        "a line on standard error says that they agree; where they do not, it says so, and the status is 2.",
+    ] {
+        assert!(words("sight").contains(part), "{part}");
+    }
     assert!(help("check").contains(&format!(" at most {} of them", exports::GREATEST_LIST)));
     let speeds = format!("A row for each speed from {} to {} km/h", exports::LEAST_SPEED, exports::GREATEST_SPEED);
     assert!(
@@ -424,7 +452,6 @@ fn help_is_true() {
     for name in ["distance", "check"] {
         assert!(row(name, "--grade").ends_with("uphill positive, as -6.00 (0.00)"), "{name}");
     }
-    let words = |name: &str| help(name).split_whitespace().collect::<Vec<_>>().join(" ");
     for name in ["list", "report", "plot"] {
         assert!(words(name).contains("the least of the road's grades, or 0 if none is negative"), "{name}");
     }

@@ -1,11 +1,13 @@
-//! `vcp heights` and `vcp sight`, against the second calculation.
+//! `vcp heights` and `vcp sight`, by either engine and by both, against the second calculation.
 
 mod common;
 
 use std::fs::{self, File};
 use std::io::Write;
+use std::path::Path;
 
-use common::{expect, expect_error, expect_wrong, folder, root, run_with};
+use common::{expect, expect_error, expect_wrong, folder, root, run, run_with, Ended};
+use sight_tests::pages::{block, text};
 use sight_tests::random::Random;
 use sight_tests::reference::file::bytes;
 use sight_tests::reference::road::{stored_height, Road};
@@ -28,6 +30,36 @@ fn metres(height: i32) -> String {
 fn table(header: &str, from: usize, to: usize, every: usize, value: impl Fn(usize) -> String) -> String {
     let rows = (from..=to).filter(|station| (station - from) % every == 0);
     header.to_string() + "\n" + &rows.map(|station| format!("{station},{}\n", value(station))).collect::<String>()
+}
+
+/// The line that says of a file that both engines agree.
+fn agreement(name: &str, from: usize, to: usize) -> String {
+    match to - from {
+        0 => format!("{name}: both engines agree at station {from}\n"),
+        others => format!("{name}: both engines agree at all {} stations from {from} to {to}\n", others + 1),
+    }
+}
+
+/// `vcp sight` prints these sights from a station on, for the file on its standard input and with these options: by either
+/// engine, and by both side by side.
+fn expect_sights(folder: &Path, options: &[&str], file: &[u8], from: usize, sights: &[usize]) {
+    let to = from + sights.len() - 1;
+    let sight = |station: usize| sights[station - from].to_string();
+    let one = table("station_m,sight_m", from, to, 1, sight);
+    let two =
+        table("station_m,sight_m,slow_sight_m", from, to, 1, |station| [sight(station), sight(station)].join(","));
+    let agreement = agreement("-", from, to);
+    for (engine, output, errors) in [(None, &one, ""), (Some("--slow"), &one, ""), (Some("--both"), &two, &agreement)] {
+        let arguments = [&["sight"], engine.as_slice(), options, &["-"]].concat();
+        let ended = run_with(folder, &arguments, file).0;
+        assert!(ended.output == *output, "{arguments:?}, {file:02X?}: {}", ended.output);
+        assert_eq!((ended.errors.as_str(), ended.status), (errors, 0), "{arguments:?}");
+    }
+}
+
+/// The second calculation's sights from these stations.
+fn second_sights(heights: &[i64], look: Look, from: usize, to: usize) -> Vec<usize> {
+    (from..=to).map(|station| available_sight(heights, look, station)).collect()
 }
 
 /// A stretch of a road, in steps.
@@ -65,7 +97,7 @@ fn heights_of_random_roads() {
 fn sights_of_random_roads() {
     let folder = folder("sights_random");
     let mut random = Random::new(84);
-    for round in 0..300 {
+    for round in 0..150 {
         let room = random.within(2..=120);
         let road =
             if round % 2 == 0 { roads::run_of_crests(&mut random, room) } else { roads::breaks(&mut random, room) };
@@ -79,29 +111,18 @@ fn sights_of_random_roads() {
         let (from, to, _) = any_stretch(&mut random, last);
         let [eye, object] = [look.eye, look.object].map(|height| metres(height as i32));
         let [from_word, to_word, farthest] = [from, to, look.farthest as usize].map(|number| number.to_string());
-        let arguments = [
-            "sight",
-            "--eye",
-            &eye,
-            "--object",
-            &object,
-            "--farthest",
-            &farthest,
-            "--from",
-            &from_word,
-            "--to",
-            &to_word,
-            "-",
+        let options = [
+            ["--eye", &eye],
+            ["--object", &object],
+            ["--farthest", &farthest],
+            ["--from", &from_word],
+            ["--to", &to_word],
         ];
-        let ended = run_with(&folder, &arguments, &bytes(&road)).0;
-        let sights = |station: usize| available_sight(&heights, look, station).to_string();
-        assert_eq!(ended.output, table("station_m,sight_m", from, to, 1, sights), "{arguments:?}, {road:?}");
-        assert_eq!((ended.errors.as_str(), ended.status), ("", 0));
+        let file = bytes(&road);
+        expect_sights(&folder, &options.concat(), &file, from, &second_sights(&heights, look, from, to));
         // Without options: eye 1.08 m, object 0.60 m, as far as the road goes.
         let look = Look { eye: 10_800, object: 6_000, farthest: 8_000 };
-        let sights = |station: usize| available_sight(&heights, look, station).to_string();
-        let ended = run_with(&folder, &["sight", "-"], &bytes(&road)).0;
-        assert_eq!(ended.output, table("station_m,sight_m", 0, last, 1, sights), "{road:?}");
+        expect_sights(&folder, &[], &file, 0, &second_sights(&heights, look, 0, last));
     }
 }
 
@@ -120,28 +141,39 @@ fn long_roads() {
         assert_eq!((ended.errors.as_str(), ended.status), ("", 0));
         let (from, to, _) = any_stretch(&mut random, last);
         let [from_word, to_word] = [from, to].map(|number| number.to_string());
-        let arguments = ["sight", "-", "--farthest", "60", "--from", &from_word, "--to", &to_word];
-        let ended = run_with(&folder, &arguments, &file).0;
+        let options = ["--farthest", "60", "--from", &from_word, "--to", &to_word];
         let (whole, look) = (whole_heights(&heights), Look { eye: 10_800, object: 6_000, farthest: 60 });
-        let sights = |station: usize| available_sight(&whole, look, station).to_string();
-        assert!(ended.output == table("station_m,sight_m", from, to, 1, sights), "{road:?}");
-        assert_eq!((ended.errors.as_str(), ended.status), ("", 0));
+        expect_sights(&folder, &options, &file, from, &second_sights(&whole, look, from, to));
     }
 }
 
-/// As far as can be asked for, where nothing is said: a station of a level road sees so far, or to the road's end.
+/// As far as can be asked for, where nothing is said: a station of a level road sees so far, or to the road's end. The slow engine
+/// is asked for these stations alone, for the whole of these roads would take it minutes.
 #[test]
 fn farthest_of_all() {
     let folder = folder("sights_farthest");
-    for (version, length, from, to, rows) in [
-        (1, 8_000, "0", "1", "0,8000\n1,7999\n"),
-        (2, 8_000, "0", "1", "0,8000\n1,7999\n"),
-        (2, 12_000, "3999", "4001", "3999,8000\n4000,8000\n4001,7999\n"),
+    for (version, length, from, sights) in [
+        (1, 8_000, 0, &[8_000, 7_999][..]),
+        (2, 8_000, 0, &[8_000, 7_999]),
+        (2, 12_000, 3_999, &[8_000, 8_000, 7_999]),
+        (2, 20_000, 12_000, &[8_000]),
     ] {
         let road = Road { version, speed: 20, purpose: 1, length, start_height: 0, first_grade: 0, curves: vec![] };
-        let ended = run_with(&folder, &["sight", "-", "--from", from, "--to", to], &bytes(&road)).0;
-        assert_eq!(ended.output, format!("station_m,sight_m\n{rows}"), "{version}, {length}");
+        let [from_word, to_word] = [from, from + sights.len() - 1].map(|station| station.to_string());
+        expect_sights(&folder, &["--from", &from_word, "--to", &to_word], &bytes(&road), from, sights);
     }
+}
+
+/// The call of both engines that the README shows.
+#[test]
+fn call_of_the_readme() {
+    let readme = text("README.md");
+    let call = readme.lines().find(|line| line.starts_with("$ vcp sight ")).expect("the README shows both engines");
+    let shown = block(&readme, call);
+    let (agreement, table) = shown.split_last().expect("the README shows what is said");
+    let ended = run(&root(), &call.split(' ').skip(2).collect::<Vec<_>>());
+    let [output, errors] = [table, &[*agreement]].map(|lines| lines.join("\n") + "\n");
+    assert_eq!(ended, Ended { output, errors, status: 0 });
 }
 
 /// Into a file, whole; and what stood there before gives way.
@@ -154,6 +186,14 @@ fn into_a_file() {
     assert_eq!(fs::read_to_string(folder.join("a.csv")).unwrap(), "station_m,height_m\n0,100.0000\n1,100.0000\n");
     expect(&folder, &["sight", "-ob.csv", "a.vcp", "--from=999"], "");
     assert_eq!(fs::read_to_string(folder.join("b.csv")).unwrap(), "station_m,sight_m\n999,1\n1000,0\n");
+    // That both engines agree is said all the same, of a file by any name on one line.
+    fs::copy(folder.join("a.vcp"), folder.join("a\nb.vcp")).unwrap();
+    for (file, name) in [("a.vcp", "a.vcp"), ("a\nb.vcp", "a\\nb.vcp")] {
+        expect_error(&folder, &["sight", file, "--both", "--from=999", "-oc.csv"], 0, &agreement(name, 999, 1_000));
+        let table = "station_m,sight_m,slow_sight_m\n999,1,1\n1000,0,0\n";
+        assert_eq!(fs::read_to_string(folder.join("c.csv")).unwrap(), table);
+    }
+    fs::remove_file(folder.join("a\nb.vcp")).unwrap();
     expect(&folder, &["heights", "a.vcp", "--from", "1000", "-o", "-"], "station_m,height_m\n1000,100.0000\n");
     // What standard output goes to is written on, and not replaced.
     let mut both = File::create(folder.join("both")).unwrap();
@@ -165,7 +205,7 @@ fn into_a_file() {
     let text = fs::read_to_string(folder.join("both")).unwrap();
     assert_eq!(text, "before\nstation_m,height_m\n1000,100.0000\nafter\n");
     fs::remove_file(folder.join("both")).unwrap();
-    assert_eq!(common::names(&folder), ["a.csv", "a.vcp", "b.csv"]);
+    assert_eq!(common::names(&folder), ["a.csv", "a.vcp", "b.csv", "c.csv"]);
 }
 
 /// Stations that the road does not have, and options that cannot be read.
@@ -192,6 +232,15 @@ fn wrong_options() {
     expect_wrong(&folder, &["sight", "a.vcp", "--every", "1"], "there is no option --every");
     expect_wrong(&folder, &["sight", "a.vcp", "--eye", "1.00001"], "--eye: \"1.00001\" has more than 4 decimals");
     expect_wrong(&folder, &["sight", "a.vcp", "--eye", ""], "--eye: the number is missing");
+    for engine in ["--slow", "--both"] {
+        expect_wrong(&folder, &["heights", "a.vcp", engine], &format!("there is no option {engine}"));
+        expect_wrong(&folder, &["sight", "a.vcp", engine, engine], &format!("{engine} stands twice"));
+        expect_wrong(&folder, &["sight", "a.vcp", &format!("{engine}=1")], &format!("{engine} takes no value"));
+        expect_wrong(&folder, &["sight", "a.vcp", engine, "--to", "1001"], "--to: the last station is 1000");
+    }
+    for engines in [["--slow", "--both"], ["--both", "--slow"]] {
+        expect_wrong(&folder, &[&["sight", "none.vcp"], &engines[..]].concat(), "--slow does not go with --both");
+    }
 }
 
 /// The proved functions judge heights and distances.
@@ -210,7 +259,9 @@ fn refused_options() {
         ("--farthest", "8001", farthest),
         ("--farthest", "4294967297", farthest),
     ] {
-        expect_error(&folder, &["sight", "a.vcp", name, value], 1, line);
+        for engine in [&[][..], &["--slow"], &["--both"]] {
+            expect_error(&folder, &[&["sight", "a.vcp", name, value], engine].concat(), 1, line);
+        }
     }
     for (name, value) in [("--eye", "0.0001"), ("--eye", "5"), ("--object", "5.0000"), ("--farthest", "8000")] {
         assert_eq!(common::run(&folder, &["sight", "a.vcp", name, value]).status, 0, "{name} {value}");
