@@ -74,8 +74,8 @@ textable:
 	$(call need,[ -f "$(TEXT)" ],$(or $(TEXT),TEXT) is not a file: make road TEXT=file [ROAD=out])
 
 # Times the proved functions beside the same calculations in safe Rust and beside the literal rule, long roads beside short ones,
-# and the listing of a thousand roads beside their marking; measures the stack of each operation; and prints the tables. It takes
-# two or three minutes.
+# the quick engine of sight beside the slow one, and the listing of a thousand roads beside their marking; measures the stack of
+# each operation; and prints the tables. It takes three minutes or so.
 bench: vcp
 	cargo run --profile bench-run --offline --quiet --bin bench
 

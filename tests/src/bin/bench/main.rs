@@ -1,8 +1,8 @@
 //! `make bench`: the proved functions beside the same calculations in safe Rust and beside the literal rule, on the same
-//! inputs in one run, and the library's marking of long roads beside that of shorter ones. The two sides take turns round by
-//! round, so that the machine's load falls on both alike. Times are those on the processor: what other programs took meanwhile
-//! does not count. Then the command's listing of many roads beside their marking, by the clock on the wall, and last the stack
-//! that each operation takes.
+//! inputs in one run, the library's marking of long roads beside that of shorter ones, and the quick engine of sight beside the
+//! slow one. The two sides take turns round by round, so that the machine's load falls on both alike. Times are those on the
+//! processor: what other programs took meanwhile does not count. Then the command's listing of many roads beside their marking,
+//! by the clock on the wall, and last the stack that each operation takes.
 
 use std::fmt::Debug;
 use std::fs;
@@ -14,12 +14,16 @@ use std::time::Instant;
 use std::{env, error};
 
 use sight_tests::bare;
+use sight_tests::engines::{ENGINES, QUICK, SLOW};
+use sight_tests::heights;
 use sight_tests::quick;
 use sight_tests::random::Random;
 use sight_tests::reference::crest::Crest;
 use sight_tests::reference::distances::required_distance;
 use sight_tests::reference::file::bytes;
+use sight_tests::reference::marks::{EYE, OBJECT};
 use sight_tests::reference::road::{marking_grade, Curve, Road};
+use sight_tests::reference::sight::Look;
 use sight_tests::reference::Answer;
 
 mod stack;
@@ -42,6 +46,9 @@ const TIMES_SHORT: f64 = 14.0;
 /// The metres of the longest road that the van takes, and of the longest of all.
 const SHORT: u32 = 8_000;
 const LONG: u32 = 100_000;
+
+/// How far the engines of sight look: the stopping distance on the level at the greatest speed.
+const FARTHEST: u32 = 285;
 
 /// How many roads are listed in one call, and in how many rounds.
 const LISTED: usize = 1_000;
@@ -304,6 +311,34 @@ fn long_markings() {
     row("300 m, one crest", "van", &times, [times.ours / times.other, times.ratio], "");
 }
 
+/// The sight profile of a road by the quick engine beside the slow one, which gives the same.
+fn profiles(road: &Road) -> Times {
+    let (heights, look) = (heights::of_road(road), Look { eye: EYE, object: OBJECT, farthest: FARTHEST });
+    let [mut sights, mut slow_sights] = ENGINES.map(|engine| {
+        let mut sights = vec![0; heights.len()];
+        assert_eq!(engine.profile(&heights, look, &mut sights), Ok(road.length + 1), "{road:?}");
+        sights
+    });
+    assert!(sights == slow_sights, "{road:?}");
+    side_by_side(
+        &mut || {
+            let _ = black_box(QUICK.profile(black_box(&heights), look, black_box(&mut sights)));
+        },
+        &mut || {
+            let _ = black_box(SLOW.profile(black_box(&heights), look, black_box(&mut slow_sights)));
+        },
+    )
+}
+
+/// The ratios say how much faster the quick engine is.
+fn engines() {
+    heading("sight profile", "quick");
+    for (name, road) in roads() {
+        let times = profiles(&road);
+        row(name, "slow engine", &times, [times.other / times.ours, 1.0 / times.ratio], "");
+    }
+}
+
 /// How the marking of a level road grows, on both sides in microseconds.
 fn growth(roads: impl Iterator<Item = Road>) {
     println!("{:>8} {:>6} {:>12} {:>12} {:>12}", "road m", "km/h", "required m", "van us", "safe Rust us");
@@ -424,6 +459,8 @@ fn main() -> Result<(), Box<dyn error::Error>> {
     comparisons();
     println!("\nThe library's marking, of roads that the van does not take and of one that it does");
     long_markings();
+    println!("\nThe two engines of sight, up to {FARTHEST} m");
+    engines();
     println!("\nMarking a level road, by its length");
     growth([1_000, 2_000, 4_000, 8_000].into_iter().map(|length| level(length, 130)));
     println!("\nMarking a level road, by the required distance");

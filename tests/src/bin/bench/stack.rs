@@ -107,11 +107,19 @@ fn on_numbers() -> Vec<Named<'static>> {
 /// The operations on a list of heights or marks.
 fn on_lists(heights: &[i32]) -> Vec<Named<'_>> {
     let look = Look { eye: exports::EYE_HEIGHT, object: exports::OBJECT_HEIGHT, farthest: 525 };
-    let (mut sights, mut ends) = (vec![0; heights.len()], vec![0; exports::MOST_ENDS]);
+    // Farther the slow engine would take long.
+    let near = Look { farthest: 60, ..look };
+    let [mut sights, mut slow_sights] = [(); 2].map(|_| vec![0; heights.len()]);
+    let mut ends = vec![0; exports::MOST_ENDS];
     let [mut marks, mut passing, every] = [(); 3].map(|_| vec![1; heights.len()]);
     vec![
         ("sight from one station", Box::new(move || answered(exports::sight(heights, 0, look)))),
         ("sight profile", Box::new(move || answered(exports::sight_profile(heights, look, &mut sights)))),
+        ("slow sight from one station", Box::new(move || answered(exports::slow_sight(heights, 0, near)))),
+        (
+            "slow sight profile",
+            Box::new(move || answered(exports::slow_sight_profile(heights, near, &mut slow_sights))),
+        ),
         ("marks of heights", Box::new(move || answered(exports::marks(130, 5, -1_440, heights, &mut marks)))),
         ("passing marks", Box::new(move || answered(exports::passing_marks(heights, 525, &mut passing)))),
         ("zones", Box::new(move || answered(exports::zones(&every, 0, &mut ends)))),
