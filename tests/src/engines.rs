@@ -32,6 +32,6 @@ impl Engine {
 }
 
 /// A look as the proved functions are asked.
-fn asked(Look { eye, object, farthest }: Look) -> exports::Look {
+pub fn asked(Look { eye, object, farthest }: Look) -> exports::Look {
     exports::Look { eye, object, farthest }
 }

@@ -1,8 +1,9 @@
-// The slow engine of sight exported for the command vcp and the tests: a station's sight and the sights of all. An answer is a
-// signed number, and a refusal is minus its number.
+// The slow engine of sight, a station's sight and the sights of all, and how many sight lines the quick one compares, exported for
+// the command vcp and the tests. An answer is a signed number, and a refusal is minus its number.
 ghost use mathlib.Core.Path.{_≡_};
 ghost use Rattle.terms.specs.Answers.{signed};
 ghost use Rattle.sight.specs.Operations.{sightAnswer, profileAnswer, profileList};
+ghost use Rattle.sight.specs.Comparisons.{comparisonsAnswer};
 
 #[no_mangle]
 pub extern "C" fn vcp_slow_sight(
@@ -29,4 +30,17 @@ pub extern "C" fn vcp_slow_sight_profile(
     ensures list { λ _. ⌜ now (sights .exit) ≡ profileList (now (heights .entry)) eye object farthest (now (sights .entry)) ⌝ }
 {
     terms::signed_answer(slow_sight::profile(heights, eye, object, farthest, sights))
+}
+
+#[no_mangle]
+pub extern "C" fn vcp_sight_comparisons(
+    heights: &[i32],
+    station: u32,
+    eye: u32,
+    object: u32,
+    farthest: u32,
+) -> i64
+    ensures { λ r. ⌜ r ≡ signed (comparisonsAnswer (now (heights .entry)) station eye object farthest) ⌝ }
+{
+    terms::signed_answer(sight::comparisons(heights, station, eye, object, farthest))
 }

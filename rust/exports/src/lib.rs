@@ -86,6 +86,14 @@ extern "C" {
         sights: *mut u16,
         sights_length: usize,
     ) -> i64;
+    fn vcp_sight_comparisons(
+        heights: *const i32,
+        heights_length: usize,
+        station: u32,
+        eye: u32,
+        object: u32,
+        farthest: u32,
+    ) -> i64;
     fn vcp_marks(
         speed: u32,
         purpose: u32,
@@ -208,6 +216,17 @@ pub fn slow_sight_profile(heights: &[i32], look: Look, sights: &mut [u16]) -> Re
             sights.len(),
         )
     })
+}
+
+/// How many sight lines [`sight`] compares from a station: at most two for each object station that it tries, which are those that
+/// are seen and the first hidden one, where there is one.
+///
+/// # Errors
+/// Refused as [`sight`] is.
+pub fn sight_comparisons(heights: &[i32], station: u32, look: Look) -> Result<u32, Refusal> {
+    let Look { eye, object, farthest } = look;
+    // SAFETY: as for `sight`.
+    refusal::answer(unsafe { vcp_sight_comparisons(heights.as_ptr(), heights.len(), station, eye, object, farthest) })
 }
 
 /// Marks each station of these heights, for a speed and a decision purpose, by the distances on a grade.

@@ -43,6 +43,18 @@ pub fn available_sight<H: Height>(heights: &[H], look: Look, i: usize) -> usize 
     ahead(heights, look, i).take_while(|&j| seen(heights, look, i, j)).count()
 }
 
+/// The object stations that are tried from i: those that are seen, and the first hidden one, where there is one.
+pub fn tried<H: Height>(heights: &[H], look: Look, i: usize) -> RangeInclusive<usize> {
+    let hidden = ahead(heights, look, i).find(|&j| !seen(heights, look, i, j));
+    hidden.map_or_else(|| ahead(heights, look, i), |hidden| i + 1..=hidden)
+}
+
+/// The comparisons of sight lines for these: one where the road itself is seen, an object of height 0, and else two.
+pub fn comparisons<H: Height>(heights: &[H], look: Look, i: usize) -> usize {
+    let road = Look { object: 0, ..look };
+    tried(heights, look, i).map(|j| if seen(heights, road, i, j) { 1 } else { 2 }).sum()
+}
+
 /// Stored heights in the numbers that sight is worked out in.
 pub fn whole_heights(heights: &[i32]) -> Vec<i64> {
     heights.iter().copied().map(i64::from).collect()
@@ -87,14 +99,24 @@ pub(super) fn fill<T>(heights: &[i32], list: &mut [T], said_of: impl Fn(&[i64], 
     Ok(heights.len() as u32)
 }
 
-/// Sight from one station.
-pub fn sight(heights: &[i32], station: u32, look: Look) -> Answer {
+/// What is said of one station, which is on the list.
+fn of_station(heights: &[i32], station: u32, look: Look, said: impl Fn(&[i64], Look, usize) -> usize) -> Answer {
     list_verdict(heights.len())?;
     if station as usize >= heights.len() {
         return Err(20);
     }
     look_verdict(look)?;
-    Ok(available_sight(&whole_heights(heights), look, station as usize) as u32)
+    Ok(said(&whole_heights(heights), look, station as usize) as u32)
+}
+
+/// Sight from one station.
+pub fn sight(heights: &[i32], station: u32, look: Look) -> Answer {
+    of_station(heights, station, look, available_sight)
+}
+
+/// How many sight lines the quick engine compares from one station.
+pub fn sight_comparisons(heights: &[i32], station: u32, look: Look) -> Answer {
+    of_station(heights, station, look, comparisons)
 }
 
 pub fn sight_profile(heights: &[i32], look: Look, sights: &mut [u16]) -> Answer {

@@ -120,6 +120,7 @@ fn on_lists(heights: &[i32]) -> Vec<Named<'_>> {
             "slow sight profile",
             Box::new(move || answered(exports::slow_sight_profile(heights, near, &mut slow_sights))),
         ),
+        ("comparisons from one station", Box::new(move || answered(exports::sight_comparisons(heights, 0, look)))),
         ("marks of heights", Box::new(move || answered(exports::marks(130, 5, -1_440, heights, &mut marks)))),
         ("passing marks", Box::new(move || answered(exports::passing_marks(heights, 525, &mut passing)))),
         ("zones", Box::new(move || answered(exports::zones(&every, 0, &mut ends)))),
