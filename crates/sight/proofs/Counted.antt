@@ -64,12 +64,9 @@ compared-most list e i n = total-most (λ t. comparisonsAt list e i (i + 1 + t))
 
 compared-next : (list : List ℤ) (e i n : ℕ) → 0 < n →
     compared list e i (n + 1 - 1) ≡ compared list e i (n - 1) + comparisonsAt list e i (i + n)
-unfolding total
-compared-next list e i zero l = absurd (omega arith)
-compared-next list e i (suc n) l =
-    let p : suc n + 1 - 1 ≡ suc n = omega arith in let q : suc n - 1 ≡ n = omega arith in
-    let r : i + 1 + n ≡ i + suc n = omega arith in
-    rw (p, q, r) refl
+compared-next list e i n l =
+    let q : n + 1 - 1 ≡ n - 1 + 1 = omega arith in let r : i + 1 + (n - 1) ≡ i + n = omega arith in
+    rw (q, ← r) (total-next (λ t. comparisonsAt list e i (i + 1 + t)) (n - 1))
 
 -- ---- stations
 pub comparisons-most : (list : List ℤ) (i e o far : ℕ) → comparisons list i e o far ≤ tried list i e o far * 2
