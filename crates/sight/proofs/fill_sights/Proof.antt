@@ -34,7 +34,18 @@ use Rattle.sight.proofs.Counted.{
   counted-hidden,
 }
 use Rattle.sight.proofs.Reach.{sight-le-far}
-use Rattle.sight.proofs.Steepest.{NoSteeper, Flatter, rise, rise-under, Passed, passed-none, passed-steep, passed-seen, passed-hidden, passed-all}
+use Rattle.sight.proofs.Steepest.{
+  NoSteeper,
+  Flatter,
+  rise,
+  rise-under,
+  Passed,
+  passed-none,
+  passed-steep,
+  passed-seen,
+  passed-hidden,
+  passed-all,
+}
 use Rattle.sight.proofs.fill_sights.Statement.{statement}
 use Rattle.sight.proofs.fill_sights.Tie as tie
 

@@ -55,8 +55,8 @@ same-length c = search needs
 returns-3 : tie.Need-returns-3
 unfolding profileAnswer profileList
 returns-3 c =
-    let room = c .before .before .before .before in
-    ends-filled (λ i. availableSight _ i _ _ _) _ _ _ _ (accepted (room .before)) (room .if1 .left) (simp zero-add at (c .before .before .fill-sights .ensures .1))
+    let room = c .before .before .before .before in let list = c .before .before .fill-sights .ensures .1 in
+    ends-filled (λ i. availableSight _ i _ _ _) _ _ _ _ (accepted (room .before)) (room .if1 .left) (simp zero-add at list)
 
 pub profile-spec : {M : Type 1} → statement M
 profile-spec =
