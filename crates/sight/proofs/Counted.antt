@@ -6,9 +6,8 @@ use mathlib.Core.List.{List}
 use Prim.Native.Nat.{ℕ, zero, suc, _+_, _-_, _*_, _≤_, _<_, min}
 use native.Mathlib.Omega.{arith}
 use lib.Dec.{T}
-use lib.IntN.{ℤ, pos, _+ℤ_}
+use lib.IntN.{ℤ, pos, _+ℤ_, +ℤ-idr}
 use lib.ListN.{length}
-use Rattle.whole.proofs.Int.{var, eq-by, reps}
 use Rattle.terms.specs.Limits.{greatestFarthest}
 use Rattle.sight.specs.Sight.{heightAt, seen}
 use Rattle.sight.specs.Comparisons.{total, tried, comparisonsAt, comparisons}
@@ -90,10 +89,6 @@ pub counted-none : (list : List ℤ) (e i now : ℕ) → Counted list e i now no
 unfolding total
 counted-none list e i now = record { sum = omega arith }
 
--- an object of height 0 is the road
-no-higher : (x : ℤ) → x +ℤ pos 0 ≡ x
-no-higher x = let v = var x in eq-by (search reps) (search reps) (omega arith)
-
 module _ {list : List ℤ} {e o i run next before now : ℕ} (c : Counted list e i before now next)
     (w : Passed (heightAt list) e o i run next) where
   abbrev h : ℕ → ℤ
@@ -106,10 +101,10 @@ module _ {list : List ℤ} {e o i run next before now : ℕ} (c : Counted list e
       let more = compared-next list e i next (omega (arith, w .before)) in
       record { sum = omega (arith, c .sum, more, one-or-two list e i (i + next) .once seen) }
 
-  -- it is below the line
+  -- it is below the line: an object of height 0 on it is hidden
   pub counted-twice : Flatter (rise h e i next) next (rise h e i run) run → Counted list e i before (now + 1 + 1) (next + 1)
   counted-twice f =
-      let hidden = object-hidden w 0 (rw (no-higher (rise h e i next)) f) in
+      let hidden = object-hidden w 0 (rw (+ℤ-idr (rise h e i next)) f) in
       let more = compared-next list e i next (omega (arith, w .before)) in
       record { sum = omega (arith, c .sum, more, one-or-two list e i (i + next) .twice hidden) }
 
