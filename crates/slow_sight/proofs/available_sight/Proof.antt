@@ -4,19 +4,29 @@
 -- `sight-by` says that `s` is the available sight. The measures are what is left to the limit, and to `j`.
 use mathlib.Core.Path.{_≡_, sym, _∙_, subst}
 use mathlib.Core.Bool.{true, false, not}
+use mathlib.Core.List.{List}
 use mathlib.Core.Logic.{⊎-elim}
-use Prim.Native.Nat.{_+_, _-_, _≤_, _<_, min}
+use Prim.Native.Nat.{ℕ, _+_, _-_, _≤_, _<_, min}
 use native.Mathlib.Numerals.{add-one}
 use native.Mathlib.Omega.{arith}
 use borrow.Author.Needs.{needs}
 use borrow.Author.Tests.{not-true, not-false}
 use lib.Dec.{T}
+use lib.IntN.{ℤ}
 use lib.ListN.{length}
+use Rattle.sight.specs.Sight.{heightAt, clears, seen}
 use Rattle.sight.proofs.Reach.{sight-by}
-use Rattle.sight.proofs.Seen.{Between, one-more}
-use Rattle.slow_sight.proofs.Search.{Passes, SeenAhead, seen-ahead, passes-ahead}
+use Rattle.sight.proofs.Seen.{Between, one-more, between-at, between-by}
 use Rattle.slow_sight.proofs.available_sight.Statement.{statement}
 use Rattle.slow_sight.proofs.available_sight.Tie as tie
+
+-- station k lets the line to the object t metres ahead pass
+abbrev Passes : List ℤ → ℕ → ℕ → ℕ → ℕ → ℕ → Type 0
+Passes list i e o t k = T (clears (heightAt list) e o i (i + t) k)
+
+-- the object is seen t metres ahead
+abbrev SeenAhead : List ℤ → ℕ → ℕ → ℕ → ℕ → Type 0
+SeenAhead list i e o t = T (seen (heightAt list) e o i (i + t))
 
 abbrev Inv-loop : tie.InvT-loop
 Inv-loop heights i e o far left limit s next j k₀ k = (i < k) × Between (Passes heights i e o next) i k
@@ -87,10 +97,10 @@ objects-less : tie.Need-objects-less Inv-loop μ-loop Inv-objects μ-objects
 objects-less c = search needs
 
 objects-again : tie.Need-objects-again Inv-loop μ-loop Inv-objects μ-objects
+unfolding seen
 objects-again c =
-    let l = c .before in let h = head l in let s = h .before .before .args in
-    let seen = seen-ahead (s .heights .now) (s .i) (s .e) (s .o) (h .objects .s + 1) (λ k b r. l .loop .inv .1 k b (omega arith)) in
-    (omega arith, one-more (h .objects .inv .1) seen)
+    let l = c .before in let h = head l in
+    (omega arith, one-more (h .objects .inv .1) (between-by _ _ _ (λ k b r. l .loop .inv .1 k b (omega arith))))
 
 returns : tie.Need-returns Inv-loop μ-loop Inv-objects μ-objects
 returns c =
@@ -98,13 +108,14 @@ returns c =
     sight-by _ _ _ _ _ record { within = omega arith; all = λ t m r. l .1 t m (omega arith); stop = λ m p. omega arith }
 
 returns-2 : tie.Need-returns-2 Inv-loop μ-loop Inv-objects μ-objects
+unfolding seen
 returns-2 c =
-    let l = c .before .before .before in let h = head l in let s = h .before .before .args in let q = limit-is h in
-    let each = passes-ahead (s .heights .now) (s .i) (s .e) (s .o) (h .objects .s + 1) in
+    let l = c .before .before .before in let h = head l in let q = limit-is h in
     sight-by _ _ _ _ _ record {
       within = omega arith;
       all = λ t m r. h .objects .inv .1 t m (omega arith);
-      stop = λ m p. hides (c .before) (c .if3 .taken) (each (rw (← add-one (h .objects .s)) at p) (l .loop .k) (l .loop .inv .0) (omega arith));
+      stop = λ m p. hides (c .before) (c .if3 .taken)
+          (between-at _ _ _ (rw (← add-one (h .objects .s)) at p) (l .loop .k) (l .loop .inv .0) (omega arith));
     }
 
 pub available-sight-spec : {M : Type 1} → statement M
