@@ -81,7 +81,7 @@ comparisons-walk list first e o far n l =
     (λ k. omega (arith, comparisons-most list (first + k) e o far))
 
 -- ---- a search that has tried the object stations before the one `next` metres ahead
--- it compared lines for each of them, and `before` of the `now` lines from other stations
+-- of the `now` comparisons `before` are those from other stations, and the rest those for these object stations
 pub record Counted (list : List ℤ) (e i before now next : ℕ) : Type 0 where
   pub sum : now ≡ before + compared list e i (next - 1)
 
