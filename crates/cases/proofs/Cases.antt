@@ -40,6 +40,6 @@ starred-cases = record {
   changes = (refl, refl, refl, refl, refl, refl, refl, refl, refl, refl);
   previews = (refl, refl, refl, refl, refl, refl);
   sights = (refl, refl, refl);
-  comparisons = (refl, refl, refl, refl);
+  comparisons = (refl, refl, refl, refl, refl);
   passing-marks = (refl, refl, refl);
 }

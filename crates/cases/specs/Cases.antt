@@ -249,11 +249,12 @@ pub record StarredCases : Type 0 where
       (sightAnswer (pos 0 ∷ pos 20 ∷ pos 0 ∷ pos 100 ∷ []) 0 10 5 8 ≡ Number 1)
       × (sightAnswer (pos 0 ∷ pos 5 ∷ pos 0 ∷ []) 0 6 4 8 ≡ Number 2)
       × (sightAnswer (pos 0 ∷ pos 6 ∷ pos 0 ∷ []) 0 6 4 8 ≡ Number 1)
-  -- What can be seen: what the quick search compares there, up to the first hidden station, where all is seen, and on the level up to two
-  -- farthest distances
+  -- What can be seen: what the quick search compares there, up to the first hidden station, where all is seen over a hump and where its
+  -- road is too, and on the level up to two farthest distances
   pub comparisons :
       (comparisonsAnswer (pos 0 ∷ pos 20 ∷ pos 0 ∷ pos 100 ∷ []) 0 10 5 8 ≡ Number 3)
       × (comparisonsAnswer (pos 0 ∷ pos 5 ∷ pos 0 ∷ []) 0 6 4 8 ≡ Number 3)
+      × (comparisonsAnswer (pos 0 ∷ pos 3 ∷ pos 0 ∷ []) 0 6 4 8 ≡ Number 2)
       × (comparisonsAnswer (replicate 4 (pos 0)) 0 6 4 8 ≡ Number 3)
       × (comparisonsAnswer (replicate 4 (pos 0)) 0 6 4 2 ≡ Number 2)
   -- Passing: the line touches the road, or is cut; and the road ends too soon

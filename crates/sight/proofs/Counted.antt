@@ -38,39 +38,39 @@ total-most f b zero l = omega arith
 total-most f b (suc n) l = omega (arith, l n, total-most f b n l)
 
 -- ---- object stations
-record OneOrTwo (seen : Type 0) (n : ℕ) : Type 0 where
+record OneOrTwo (Shown : Type 0) (n : ℕ) : Type 0 where
   most : n ≤ 2
-  once : seen → n ≡ 1
-  twice : (seen → ⊥) → n ≡ 2
+  once : Shown → n ≡ 1
+  twice : (Shown → ⊥) → n ≡ 2
 
-one-or-two : (list : List ℤ) (e i j : ℕ) → OneOrTwo (T (seen (heightAt list) e 0 i j)) (comparisonsAt list e i j)
+one-or-two : (list : List ℤ) (i e j : ℕ) → OneOrTwo (T (seen (heightAt list) e 0 i j)) (comparisonsAt list i e j)
 unfolding comparisonsAt
-one-or-two list e i j = go (seen (heightAt list) e 0 i j)
+one-or-two list i e j = go (seen (heightAt list) e 0 i j)
   where
     go : (b : Bool) → OneOrTwo (T b) (cond b 1 2)
     go true = record { most = omega arith; once = λ t. refl; twice = λ n. absurd (n tt) }
     go false = record { most = omega arith; once = λ t. absurd t; twice = λ n. refl }
 
-pub comparisons-at-most : (list : List ℤ) (e i j : ℕ) → comparisonsAt list e i j ≤ 2
-comparisons-at-most list e i j = one-or-two list e i j .most
+pub one-or-two-most : (list : List ℤ) (i e j : ℕ) → comparisonsAt list i e j ≤ 2
+one-or-two-most list i e j = one-or-two list i e j .most
 
 -- the comparisons for the first n object stations
 abbrev pub compared : List ℤ → ℕ → ℕ → ℕ → ℕ
-compared list e i n = total (λ t. comparisonsAt list e i (i + 1 + t)) n
+compared list i e n = total (λ t. comparisonsAt list i e (i + 1 + t)) n
 
-pub compared-most : (list : List ℤ) (e i n : ℕ) → compared list e i n ≤ n * 2
-compared-most list e i n = total-most (λ t. comparisonsAt list e i (i + 1 + t)) 2 n (λ t. comparisons-at-most list e i (i + 1 + t))
+pub compared-most : (list : List ℤ) (i e n : ℕ) → compared list i e n ≤ n * 2
+compared-most list i e n = total-most (λ t. comparisonsAt list i e (i + 1 + t)) 2 n (λ t. one-or-two-most list i e (i + 1 + t))
 
-compared-next : (list : List ℤ) (e i n : ℕ) → 0 < n →
-    compared list e i (n + 1 - 1) ≡ compared list e i (n - 1) + comparisonsAt list e i (i + n)
-compared-next list e i n l =
+compared-next : (list : List ℤ) (i e n : ℕ) → 0 < n →
+    compared list i e (n + 1 - 1) ≡ compared list i e (n - 1) + comparisonsAt list i e (i + n)
+compared-next list i e n l =
     let q : n + 1 - 1 ≡ n - 1 + 1 = omega arith in let r : i + 1 + (n - 1) ≡ i + n = omega arith in
-    rw (q, ← r) (total-next (λ t. comparisonsAt list e i (i + 1 + t)) (n - 1))
+    rw (q, ← r) (total-next (λ t. comparisonsAt list i e (i + 1 + t)) (n - 1))
 
 -- ---- stations
 pub comparisons-most : (list : List ℤ) (i e o far : ℕ) → comparisons list i e o far ≤ tried list i e o far * 2
 unfolding comparisons
-comparisons-most list i e o far = compared-most list e i (tried list i e o far)
+comparisons-most list i e o far = compared-most list i e (tried list i e o far)
 
 -- those from n stations on from `first`
 pub comparisons-walk : (list : List ℤ) (first e o far n : ℕ) → far ≤ greatestFarthest →
@@ -82,31 +82,31 @@ comparisons-walk list first e o far n l =
 
 -- ---- a search that has tried the object stations before the one `next` metres ahead
 -- of the `now` comparisons `before` are those from other stations, and the rest those for these object stations
-pub record Counted (list : List ℤ) (e i before now next : ℕ) : Type 0 where
-  pub sum : now ≡ before + compared list e i (next - 1)
+pub record Counted (list : List ℤ) (i e before now next : ℕ) : Type 0 where
+  pub sum : now ≡ before + compared list i e (next - 1)
 
-pub counted-none : (list : List ℤ) (e i now : ℕ) → Counted list e i now now 1
+pub counted-none : (list : List ℤ) (i e now : ℕ) → Counted list i e now now 1
 unfolding total
-counted-none list e i now = record { sum = omega arith }
+counted-none list i e now = record { sum = omega arith }
 
-module _ {list : List ℤ} {e o i run next before now : ℕ} (c : Counted list e i before now next)
+module _ {list : List ℤ} {e o i run next before now : ℕ} (c : Counted list i e before now next)
     (w : Passed (heightAt list) e o i run next) where
   abbrev h : ℕ → ℤ
   h = heightAt list
 
   -- the next station's road is on the line or above it
-  pub counted-once : NoSteeper (rise h e i run) run (rise h e i next) next → Counted list e i before (now + 1) (next + 1)
+  pub counted-once : NoSteeper (rise h e i run) run (rise h e i next) next → Counted list i e before (now + 1) (next + 1)
   counted-once f =
       let seen = object-seen w 0 (slope-raise (rise h e i run) (rise h e i next) 0 run next f) in
-      let more = compared-next list e i next (omega (arith, w .before)) in
-      record { sum = omega (arith, c .sum, more, one-or-two list e i (i + next) .once seen) }
+      let more = compared-next list i e next (omega (arith, w .before)) in
+      record { sum = omega (arith, c .sum, more, one-or-two list i e (i + next) .once seen) }
 
   -- it is below the line: an object of height 0 on it is hidden
-  pub counted-twice : Flatter (rise h e i next) next (rise h e i run) run → Counted list e i before (now + 1 + 1) (next + 1)
+  pub counted-twice : Flatter (rise h e i next) next (rise h e i run) run → Counted list i e before (now + 1 + 1) (next + 1)
   counted-twice f =
       let hidden = object-hidden w 0 (rw (+ℤ-idr (rise h e i next)) f) in
-      let more = compared-next list e i next (omega (arith, w .before)) in
-      record { sum = omega (arith, c .sum, more, one-or-two list e i (i + next) .twice hidden) }
+      let more = compared-next list i e next (omega (arith, w .before)) in
+      record { sum = omega (arith, c .sum, more, one-or-two list i e (i + next) .twice hidden) }
 
   module _ (far : ℕ) where
     -- all up to the limit are seen

@@ -16,17 +16,17 @@ unfoldable pub total : (ℕ → ℕ) → ℕ → ℕ
 total f zero = 0
 total f (suc n) = total f n + f n
 
--- the object stations that a search from station i tries: those that are seen, and the first hidden one where there is one
+-- how many object stations a search from station i tries: those that are seen, and the first hidden one where there is one
 unfoldable pub tried : List ℤ → ℕ → ℕ → ℕ → ℕ → ℕ
 tried list i e o far = min (availableSight list i e o far + 1) (min far (length list - 1 - i))
 
 -- the comparisons for the object station j: one where the road itself is seen there, which is an object of height 0, else two
 unfoldable pub comparisonsAt : List ℤ → ℕ → ℕ → ℕ → ℕ
-comparisonsAt list e i j = cond (seen (heightAt list) e 0 i j) 1 2
+comparisonsAt list i e j = cond (seen (heightAt list) e 0 i j) 1 2
 
 -- those from station i: for each object station that is tried
 unfoldable pub comparisons : List ℤ → ℕ → ℕ → ℕ → ℕ → ℕ
-comparisons list i e o far = total (λ t. comparisonsAt list e i (i + 1 + t)) (tried list i e o far)
+comparisons list i e o far = total (λ t. comparisonsAt list i e (i + 1 + t)) (tried list i e o far)
 
 -- refused as sight from one station is
 unfoldable pub comparisonsAnswer : List ℤ → ℕ → ℕ → ℕ → ℕ → Answer

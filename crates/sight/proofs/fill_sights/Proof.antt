@@ -55,7 +55,7 @@ record Searched (list : List ℤ) (i e o end before now bits run next : ℕ) : T
   fits : SFits w32 (heightAt list (i + run))
   rises : toZ w64 bits ≡ rise (heightAt list) e i run
   passed : Passed (heightAt list) e o i run next
-  counted : Counted list e i before now next
+  counted : Counted list i e before now next
 
 abbrev Inv-search : tie.InvT-search
 Inv-search heights first count e o far sights height object compared₀ k i ahead end eye rise₀ run₀ next₀ compared rise run next =
@@ -275,7 +275,7 @@ count-small : (c : tie.After-road Inv-search μ-search Inv-loop μ-loop) → hea
 count-small c =
     let s = start (outer c) .args in let w = walk (outer c) .loop in let l = head c .search in
     let others = comparisons-walk (s .heights .now) (s .first) (s .e) (s .o) (s .far) (w .k) (omega arith) in
-    let own = compared-most (s .heights .now) (s .e) (at (outer c)) (l .next - 1) in
+    let own = compared-most (s .heights .now) (at (outer c)) (s .e) (l .next - 1) in
     omega (arith, others, own, w .inv .within, w .inv .counted, l .inv .near, l .inv .within, l .inv .counted .sum)
 
 add-compared : tie.Need-add-compared Inv-search μ-search Inv-loop μ-loop
