@@ -119,3 +119,28 @@ pub fn sight(given: &Given, output: &mut Output) -> Result<u8, Trouble> {
     let sights = engine(&heights, look, stations.clone()).map_err(&refused)?;
     write_table(given, output, SIGHTS_HEADER, stations.zip(sights))
 }
+
+#[cfg(test)]
+mod tests {
+    use std::ffi::OsString;
+    use std::{env, fs, process};
+
+    use super::*;
+    use crate::commands::COMMANDS;
+
+    /// What each engine sees is written in its own column, also where they differ, and then it fails.
+    #[test]
+    fn table_of_engines_that_differ() {
+        let command = COMMANDS.iter().find(|command| command.name == "sight").expect("it is a command");
+        let file = env::temp_dir().join(format!("vcp_engines_that_differ_{}.csv", process::id()));
+        let arguments = ["a.vcp", "--both", "-o"].map(OsString::from).into_iter().chain([file.clone().into()]);
+        let given = Given::read(command, &arguments.collect::<Vec<_>>()).expect("it is used rightly");
+        let seen = [(5, 7, 7), (6, 6, 8)].map(|(station, quick, slow)| Seen { station, quick, slow });
+        let trouble = write_both(&given, &mut Output::standard(), &seen).expect_err("they differ");
+        let table = fs::read_to_string(&file).expect("the table is written");
+        fs::remove_file(&file).expect("the table is there");
+        assert_eq!(table, "station_m,sight_m,slow_sight_m\n5,7,7\n6,6,8\n");
+        let lines = ["a.vcp: the engines differ at station 6: quick 6 m, slow 8 m", "a.vcp: 1 of 2 stations differs"];
+        assert_eq!((trouble.status(), trouble.lines()), (2, &lines.map(String::from)[..]));
+    }
+}
