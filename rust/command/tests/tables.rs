@@ -5,6 +5,7 @@ mod common;
 use std::fs::{self, File};
 use std::io::Write;
 use std::path::Path;
+use std::time::Instant;
 
 use common::{expect, expect_error, expect_wrong, folder, root, run, run_with, Ended};
 use sight_tests::pages::{block, text};
@@ -147,6 +148,33 @@ fn long_roads() {
     }
 }
 
+/// Runs of short crests far out: what they hide is hidden from either engine. Cut to two bytes a station would be another one, on a
+/// straight.
+#[test]
+fn sights_far_out() {
+    let folder = folder("sights_far_out");
+    let mut random = Random::new(135);
+    let look = Look { eye: 500, object: 500, farthest: 60 };
+    let (mut hidden, mut far) = (0, 0);
+    for _ in 0..8 {
+        let road = roads::steeper(roads::far_run_of_crests(&mut random, 80));
+        let heights = whole_heights(&heights(&road));
+        let last = heights.len() - 1;
+        let curves = road.curves.first().zip(road.curves.last()).expect("the run has curves");
+        let (from, to) = (curves.0.begin() as usize - 40, last.min(curves.1.end() as usize + 20));
+        let [from_word, to_word] = [from, to].map(|number| number.to_string());
+        let options = ["--eye=0.05", "--object=0.05", "--farthest=60", "--from", &from_word, "--to", &to_word];
+        let sights = second_sights(&heights, look, from, to);
+        expect_sights(&folder, &options, &bytes(&road), from, &sights);
+        for (station, sight) in (from..).zip(sights) {
+            let less = sight < (last - station).min(60);
+            hidden += usize::from(less);
+            far += usize::from(less && station > 65_535);
+        }
+    }
+    assert!(hidden > 200 && far > 100, "{hidden} stations with a hidden one ahead, {far} of them behind 65,535");
+}
+
 /// As far as can be asked for, where nothing is said: a station of a level road sees so far, or to the road's end. The slow engine
 /// is asked for these stations alone, for the whole of these roads would take it minutes.
 #[test]
@@ -161,6 +189,26 @@ fn farthest_of_all() {
         let road = Road { version, speed: 20, purpose: 1, length, start_height: 0, first_grade: 0, curves: vec![] };
         let [from_word, to_word] = [from, from + sights.len() - 1].map(|station| station.to_string());
         expect_sights(&folder, &["--from", &from_word, "--to", &to_word], &bytes(&road), from, sights);
+    }
+}
+
+/// Their answers do not tell one engine from the other, but their time does: it is the quick one that is asked where nothing is
+/// said, and the slow one behind --slow and, beside the other, behind --both.
+#[test]
+fn slow_engine_takes_its_time() {
+    let folder = folder("sights_time");
+    let (version, speed, purpose) = (1, 20, 1);
+    let road = Road { version, speed, purpose, length: 1_200, start_height: 0, first_grade: 0, curves: vec![] };
+    let file = bytes(&road);
+    let time = |engine: &[&str]| {
+        let start = Instant::now();
+        assert_eq!(run_with(&folder, &[&["sight", "-"], engine].concat(), &file).0.status, 0, "{engine:?}");
+        start.elapsed()
+    };
+    let quick = (0..10).map(|_| time(&[])).min().expect("there are ten times");
+    for engine in ["--slow", "--both"] {
+        let slow = time(&[engine]);
+        assert!(slow > 5 * quick, "{engine} takes {slow:?}, the quick engine {quick:?}");
     }
 }
 
