@@ -349,6 +349,14 @@ fn agreement_behind_the_table() {
     let full = File::options().write(true).open("/dev/full").expect("the system has a full device");
     let line = "standard output: No space left on device\n".to_string();
     assert_eq!(into(&folder, &call, full), (Some(2), line));
+    for (file, why) in [
+        ("none/a.csv", "No such file or directory"),
+        (".", "Is a directory"),
+        ("/dev/full", "No space left on device"),
+        ("three-crests.vcp", "it would replace what it is made from"),
+    ] {
+        expect_error(&folder, &[&call[..], &["-o", file]].concat(), 2, &format!("{file}: {why}\n"));
+    }
 }
 
 /// A road file is not written to a terminal, which is standard output where -o does not name a file. It goes into the file that -o
@@ -436,10 +444,12 @@ fn help_is_true() {
         assert!(row(name, "--object").ends_with(&metres(exports::OBJECT_HEIGHT)), "{name}");
     }
     assert!(row("sight", "--farthest").ends_with(&format!("({})", exports::GREATEST_FARTHEST)));
+    assert!(row("sight", "--slow").ends_with(" by the slow engine"));
+    assert!(row("sight", "--both").ends_with(" by both engines"));
     for part in [
-        "for each object station every station between is looked at, with nothing remembered.",
+        "The slow engine gives the same sights in a way that anyone can follow: for each object station every station between is looked at, with nothing remembered.",
         "Its time grows with the square of the sight, and a whole road may take it minutes: give --farthest, or --from and --to.",
-        "a line on standard error says that they agree; where they do not, it says so, and the status is 2.",
+        "With --both the sights of the quick and of the slow engine stand side by side, and a line on standard error says that they agree; where they do not, it says so, and the status is 2.",
     ] {
         assert!(words("sight").contains(part), "{part}");
     }
