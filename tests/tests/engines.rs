@@ -1,6 +1,8 @@
 //! Over all inputs, refusals included, both engines of sight give the same. The tests of sight compare each with the second
 //! calculation; here they are compared with each other, with any faults in what is asked, and on long roads.
 
+use std::time::{Duration, Instant};
+
 use sight_tests::engines::ENGINES;
 use sight_tests::heights;
 use sight_tests::lent;
@@ -88,6 +90,29 @@ fn long_roads() {
         }
     }
     assert!(hidden > 300 && far > 5, "{hidden} stations with a hidden one ahead, {far} that see over 500 m");
+}
+
+/// The least time of some calls, which all give this.
+fn least_time(calls: usize, answer: u32, ask: impl Fn() -> Answer) -> Duration {
+    let times = (0..calls).map(|_| {
+        let start = Instant::now();
+        assert_eq!(ask(), Ok(answer));
+        start.elapsed()
+    });
+    times.min().expect("there are some calls")
+}
+
+/// Their answers do not tell one engine from the other, but their time on a level road does: from one station it is thousands of
+/// times that of the quick one, and hundreds of times for the profile.
+#[test]
+fn slow_engine_takes_its_time() {
+    let level = vec![0; 8_001];
+    let look = Look { eye: 1, object: 1, farthest: 8_000 };
+    let [quick, slow] = ENGINES.map(|engine| least_time(5, 8_000, || engine.sight(&level, 0, look)));
+    assert!(slow > 20 * quick, "sight: slow {slow:?}, quick {quick:?}");
+    let stretch = &level[..600];
+    let [quick, slow] = ENGINES.map(|engine| least_time(5, 600, || engine.profile(stretch, look, &mut [0; 600])));
+    assert!(slow > 20 * quick, "profile: slow {slow:?}, quick {quick:?}");
 }
 
 /// A proof does not tell one engine from the other, for their contracts are the same. That the slow one is another, and is what its
