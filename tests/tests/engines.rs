@@ -89,7 +89,7 @@ fn long_roads() {
             far += u32::from(answer.is_ok_and(|sight| sight > 500));
         }
     }
-    assert!(hidden > 300 && far > 5, "{hidden} stations with a hidden one ahead, {far} that see over 500 m");
+    assert!(hidden > 500 && far > 15, "{hidden} stations with a hidden one ahead, {far} that see over 500 m");
 }
 
 /// The least time of some calls, which all give this.

@@ -122,10 +122,11 @@ Stations and sight are in m, in the direction of rising stations. Sight ends
 where the object is hidden first, at the farthest distance, or with the road.
 The slow engine gives the same sights in a way that anyone can follow: for each
 object station every station between is looked at, with nothing remembered. Its
-time grows with the square of the sight, and a whole road may take it minutes:
-give --farthest, or --from and --to. With --both the sights of the quick and of
-the slow engine stand side by side, and a line on standard error says that they
-agree; where they do not, it says so, and the status is 2.",
+time grows with the square of the sight: all of a level road of 8 km takes it
+minutes, and of a longer one hours, unless --farthest, or --from and --to, ask
+for less. With --both the sights of the quick and of the slow engine stand side
+by side, and a line on standard error says that they agree; where they do not,
+it says so, and the status is 2.",
         operands: ONE_FILE,
         options: &[
             EYE,

@@ -5,7 +5,7 @@ use std::fmt::Display;
 use exports::{Look, EYE_HEIGHT, GREATEST_FARTHEST, LONG_STATIONS, OBJECT_HEIGHT};
 use roadtext::decimal;
 
-use crate::answers::write_answer;
+use crate::answers::{file_to_write, write_answer};
 use crate::arguments::{Given, HEIGHT, WHOLE};
 use crate::engines::{self, Seen, Stations};
 use crate::output::Output;
@@ -112,6 +112,8 @@ pub fn sight(given: &Given, output: &mut Output) -> Result<u8, Trouble> {
     let refused = Trouble::refused(given.file());
     let heights = heights_of(&input::road_file(given.file())?).map_err(&refused)?;
     let stations = stretch.stations(given, heights.len() - 1)?;
+    // The slow engine may take long, and not for a table that is not written.
+    file_to_write(given)?;
     if both {
         return write_both(given, output, &engines::both(&heights, look, stations).map_err(&refused)?);
     }

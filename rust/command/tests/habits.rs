@@ -357,6 +357,12 @@ fn agreement_behind_the_table() {
     ] {
         expect_error(&folder, &[&call[..], &["-o", file]].concat(), 2, &format!("{file}: {why}\n"));
     }
+    // What would be replaced is said before an engine is asked, and refuses.
+    let replaced = "three-crests.vcp: it would replace what it is made from\n";
+    for engine in ["--slow", "--both"] {
+        let call = ["sight", "three-crests.vcp", engine, "--farthest=0", "-o", "three-crests.vcp"];
+        expect_error(&folder, &call, 2, replaced);
+    }
 }
 
 /// A road file is not written to a terminal, which is standard output where -o does not name a file. It goes into the file that -o
@@ -448,7 +454,7 @@ fn help_is_true() {
     assert!(row("sight", "--both").ends_with(" by both engines"));
     for part in [
         "The slow engine gives the same sights in a way that anyone can follow: for each object station every station between is looked at, with nothing remembered.",
-        "Its time grows with the square of the sight, and a whole road may take it minutes: give --farthest, or --from and --to.",
+        "Its time grows with the square of the sight: all of a level road of 8 km takes it minutes, and of a longer one hours, unless --farthest, or --from and --to, ask for less.",
         "With --both the sights of the quick and of the slow engine stand side by side, and a line on standard error says that they agree; where they do not, it says so, and the status is 2.",
     ] {
         assert!(words("sight").contains(part), "{part}");
