@@ -9,8 +9,9 @@ use lib.Dec.{T}
 use lib.IntN.{ℤ, pos, _+ℤ_, +ℤ-idr}
 use lib.ListN.{length}
 use Rattle.terms.specs.Limits.{greatestFarthest}
+use Rattle.directions.specs.Directions.{faced, counted}
 use Rattle.sight.specs.Sight.{heightAt, seen}
-use Rattle.sight.specs.Comparisons.{total, tried, comparisonsAt, comparisons}
+use Rattle.sight.specs.Comparisons.{total, tried, comparisonsAt, comparisons, comparisonsToward}
 use Rattle.sight.proofs.Steepest.{
   NoSteeper,
   Flatter,
@@ -72,13 +73,13 @@ pub comparisons-most : (list : List ℤ) (i e o far : ℕ) → comparisons list 
 unfolding comparisons
 comparisons-most list i e o far = compared-most list i e (tried list i e o far)
 
--- those from n stations on from `first`
-pub comparisons-walk : (list : List ℤ) (first e o far n : ℕ) → far ≤ greatestFarthest →
-    total (λ k. comparisons list (first + k) e o far) n ≤ n * (greatestFarthest * 2)
-unfolding tried
-comparisons-walk list first e o far n l =
-    total-most (λ k. comparisons list (first + k) e o far) (greatestFarthest * 2) n
-    (λ k. omega (arith, comparisons-most list (first + k) e o far))
+-- those from n stations on from `first`, in a direction
+pub comparisons-walk : (list : List ℤ) (back : Bool) (first e o far n : ℕ) → far ≤ greatestFarthest →
+    total (λ k. comparisonsToward list back (first + k) e o far) n ≤ n * (greatestFarthest * 2)
+unfolding comparisonsToward tried
+comparisons-walk list back first e o far n l =
+    total-most (λ k. comparisonsToward list back (first + k) e o far) (greatestFarthest * 2) n
+    (λ k. omega (arith, comparisons-most (faced back list) (counted back (length list) (first + k)) e o far))
 
 -- ---- a search that has tried the object stations before the one `next` metres ahead
 -- of the `now` comparisons `before` are those from other stations, and the rest those for these object stations
@@ -102,8 +103,8 @@ module _ {list : List ℤ} {e o i run next before now : ℕ} (c : Counted list i
       record { sum = omega (arith, c .sum, more, one-or-two list i e (i + next) .once seen) }
 
   -- it is below the line: an object of height 0 on it is hidden
-  pub counted-twice : Flatter (rise h e i next) next (rise h e i run) run → Counted list i e before (now + 1 + 1) (next + 1)
-  counted-twice f =
+  pub counted-both : Flatter (rise h e i next) next (rise h e i run) run → Counted list i e before (now + 1 + 1) (next + 1)
+  counted-both f =
       let hidden = object-hidden w 0 (rw (+ℤ-idr (rise h e i next)) f) in
       let more = compared-next list i e next (omega (arith, w .before)) in
       record { sum = omega (arith, c .sum, more, one-or-two list i e (i + next) .twice hidden) }
@@ -122,4 +123,4 @@ module _ {list : List ℤ} {e o i run next before now : ℕ} (c : Counted list i
     unfolding comparisons tried
     counted-hidden l f g =
         let n : tried list i e o far ≡ next + 1 - 1 = omega (arith, w .before, passed-hidden list far w l g) in
-        rw n (counted-twice f .sum)
+        rw n (counted-both f .sum)

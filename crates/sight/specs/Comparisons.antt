@@ -1,7 +1,7 @@
 -- docs/RULES.md, "What can be seen": how many sight lines the quick search compares. It asks of each object station first whether the
 -- road itself is seen there, since then the object is too, and asks whether the object is seen only where the road is not.
 use Prim.Native.Nat.{ℕ, zero, suc, _+_, _-_, min}
-use mathlib.Core.Bool.{cond}
+use mathlib.Core.Bool.{Bool, cond}
 use mathlib.Core.List.{List}
 use lib.IntN.{ℤ}
 use lib.ListN.{length}
@@ -9,6 +9,7 @@ use Rattle.terms.specs.Answers.{unless}
 use Rattle.terms.specs.declared.Answer.{Answer}
 use Rattle.terms.specs.declared.Answer.the-variants.{Number}
 use Rattle.verdicts.specs.Verdicts.{sightVerdict}
+use Rattle.directions.specs.Directions.{faced, counted}
 use Rattle.sight.specs.Sight.{heightAt, seen, availableSight}
 
 -- f 0 + … + f (n − 1)
@@ -28,6 +29,10 @@ comparisonsAt list i e j = cond (seen (heightAt list) e 0 i j) 1 2
 unfoldable pub comparisons : List ℤ → ℕ → ℕ → ℕ → ℕ → ℕ
 comparisons list i e o far = total (λ t. comparisonsAt list i e (i + 1 + t)) (tried list i e o far)
 
+-- those from station i in a direction, over the heights as the driver meets them
+unfoldable pub comparisonsToward : List ℤ → Bool → ℕ → ℕ → ℕ → ℕ → ℕ
+comparisonsToward list back i e o far = comparisons (faced back list) (counted back (length list) i) e o far
+
 -- refused as sight from one station is
-unfoldable pub comparisonsAnswer : List ℤ → ℕ → ℕ → ℕ → ℕ → Answer
-comparisonsAnswer list i e o far = unless (sightVerdict (length list) i e o far) (Number (comparisons list i e o far))
+unfoldable pub comparisonsAnswer : List ℤ → Bool → ℕ → ℕ → ℕ → ℕ → Answer
+comparisonsAnswer list back i e o far = unless (sightVerdict (length list) i e o far) (Number (comparisonsToward list back i e o far))

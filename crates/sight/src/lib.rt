@@ -4,19 +4,20 @@ ghost use Prim.Native.Nat.{_+_, _≤_};
 ghost use lib.ListN.{length};
 ghost use Rattle.terms.specs.Limits.{greatestFarthest, greatestList};
 ghost use Rattle.whole.specs.Fill.{filled};
-ghost use Rattle.sight.specs.Sight.{availableSight};
-ghost use Rattle.sight.specs.Operations.{sightAnswer, profileAnswer, profileList};
-ghost use Rattle.sight.specs.Comparisons.{total, comparisons, comparisonsAnswer};
+ghost use Rattle.sight.specs.Operations.{sightToward, sightAnswer, profileAnswer, profileList};
+ghost use Rattle.sight.specs.Comparisons.{total, comparisonsToward, comparisonsAnswer};
 use terms::Answer;
 use terms::Verdict;
 
-// The sights of `count` stations from `first` on. From each the search goes ahead and is left at the first hidden station.
-// All stations less than `next` metres ahead are seen. The steepest line to them goes from the eye to the road `run` metres
-// ahead, `rise` above the eye; before the first it goes straight down. It alone decides about the next station: an object on it or
-// above it is seen. Where the road there reaches the line, so does any object on it, and the line to that road is the steepest from
-// then on. Slopes are compared by products, `road / next` with `rise / run`. The answer is how many sight lines were compared.
+// The sights of `count` stations from `first` on, in a direction. From each the search goes ahead and is left at the first hidden station.
+// It counts the stations as the driver meets them, and `i` is where the station stands among them. All stations less than `next` metres
+// ahead are seen. The steepest line to them goes from the eye to the road `run` metres ahead, `rise` above the eye; before the first it
+// goes straight down. It alone decides about the next station: an object on it or above it is seen. Where the road there reaches the
+// line, so does any object on it, and the line to that road is the steepest from then on. Slopes are compared by products, `road / next`
+// with `rise / run`. The answer is how many sight lines were compared.
 fn fill_sights(
     heights: &[i32],
+    back: bool,
     first: usize,
     count: usize,
     e: u32,
@@ -26,17 +27,19 @@ fn fill_sights(
 ) -> usize
     requires fits { ⌜ (first + count ≤ length (now heights)) × (count ≤ length (now sights)) ⌝ }
     requires within { ⌜ (count ≤ greatestList) × (far ≤ greatestFarthest) ⌝ }
-    ensures compared { λ r. ⌜ r ≡ total (λ k. comparisons (now (heights .entry)) (first + k) e o far) count ⌝ }
-    ensures list { λ _. ⌜ now (sights .exit) ≡ filled (λ k. availableSight (now (heights .entry)) (first + k) e o far) 0 count (now (sights .entry)) ⌝ }
+    ensures compared { λ r. ⌜ r ≡ total (λ k. comparisonsToward (now (heights .entry)) back (first + k) e o far) count ⌝ }
+    ensures list { λ _. ⌜ now (sights .exit) ≡ filled (λ k. sightToward (now (heights .entry)) back (first + k) e o far) 0 count (now (sights .entry)) ⌝ }
 {
     let height = e as i64;
     let object = o as i64;
+    let n = heights.len();
     let mut compared: usize = 0;
     for k in 0..count {
-        let i = first + k;
-        let ahead = heights.len() - i;
+        let station = first + k;
+        let i = directions::counted(back, n, station);
+        let ahead = n - i;
         let end = if far < ahead { far + 1 } else { ahead };
-        let eye = heights[i] as i64 + height;
+        let eye = heights[station] as i64 + height;
         let mut rise = -height;
         let mut run: usize = 0;
         let mut next: usize = 1;
@@ -45,7 +48,8 @@ fn fill_sights(
                 break 'search end - 1;
             }
             let following = next + 1;
-            let road = heights[i + next] as i64 - eye;
+            let at = directions::counted(back, n, i + next);
+            let road = heights[at] as i64 - eye;
             let line = rise * (next as i64);
             compared = compared + 1; // the line to the road with the steepest
             if line <= road * (run as i64) {
@@ -64,9 +68,16 @@ fn fill_sights(
     compared
 }
 
-// Sight from one station: the walk over this one.
-pub fn sight(heights: &[i32], station: u32, eye: u32, object: u32, farthest: u32) -> Answer
-    ensures { λ r. ⌜ r ≡ sightAnswer (now (heights .entry)) station eye object farthest ⌝ }
+// Sight from one station in a direction: the walk over this one.
+pub fn sight(
+    heights: &[i32],
+    back: bool,
+    station: u32,
+    eye: u32,
+    object: u32,
+    farthest: u32,
+) -> Answer
+    ensures { λ r. ⌜ r ≡ sightAnswer (now (heights .entry)) back station eye object farthest ⌝ }
 {
     let verdict = verdicts::sight_verdict(heights.len(), station, eye, object, farthest);
     if let Verdict::Fault(number) = verdict {
@@ -75,13 +86,20 @@ pub fn sight(heights: &[i32], station: u32, eye: u32, object: u32, farthest: u32
     let i = station as usize;
     let far = farthest as usize;
     let mut one = [0u16; 1];
-    fill_sights(heights, i, 1, eye, object, far, &mut one);
+    fill_sights(heights, back, i, 1, eye, object, far, &mut one);
     Answer::Number(one[0] as u32)
 }
 
-// How many sight lines the search from one station compares.
-pub fn comparisons(heights: &[i32], station: u32, eye: u32, object: u32, farthest: u32) -> Answer
-    ensures { λ r. ⌜ r ≡ comparisonsAnswer (now (heights .entry)) station eye object farthest ⌝ }
+// How many sight lines the search from one station in a direction compares.
+pub fn comparisons(
+    heights: &[i32],
+    back: bool,
+    station: u32,
+    eye: u32,
+    object: u32,
+    farthest: u32,
+) -> Answer
+    ensures { λ r. ⌜ r ≡ comparisonsAnswer (now (heights .entry)) back station eye object farthest ⌝ }
 {
     let verdict = verdicts::sight_verdict(heights.len(), station, eye, object, farthest);
     if let Verdict::Fault(number) = verdict {
@@ -90,14 +108,21 @@ pub fn comparisons(heights: &[i32], station: u32, eye: u32, object: u32, farthes
     let i = station as usize;
     let far = farthest as usize;
     let mut one = [0u16; 1];
-    let compared = fill_sights(heights, i, 1, eye, object, far, &mut one);
+    let compared = fill_sights(heights, back, i, 1, eye, object, far, &mut one);
     Answer::Number(compared as u32)
 }
 
-// The sight profile: every station's sight.
-pub fn profile(heights: &[i32], eye: u32, object: u32, farthest: u32, sights: &mut [u16]) -> Answer
+// The sight profile in a direction: every station's sight, at its own place.
+pub fn profile(
+    heights: &[i32],
+    back: bool,
+    eye: u32,
+    object: u32,
+    farthest: u32,
+    sights: &mut [u16],
+) -> Answer
     ensures answer { λ r. ⌜ r ≡ profileAnswer (now (heights .entry)) eye object farthest (now (sights .entry)) ⌝ }
-    ensures list { λ _. ⌜ now (sights .exit) ≡ profileList (now (heights .entry)) eye object farthest (now (sights .entry)) ⌝ }
+    ensures list { λ _. ⌜ now (sights .exit) ≡ profileList (now (heights .entry)) back eye object farthest (now (sights .entry)) ⌝ }
 {
     let verdict = verdicts::profile_verdict(heights.len(), eye, object, farthest);
     if let Verdict::Fault(number) = verdict {
@@ -107,6 +132,6 @@ pub fn profile(heights: &[i32], eye: u32, object: u32, farthest: u32, sights: &m
         return Answer::Refused(terms::ROOM_REFUSED);
     }
     let far = farthest as usize;
-    fill_sights(heights, 0, heights.len(), eye, object, far, sights);
+    fill_sights(heights, back, 0, heights.len(), eye, object, far, sights);
     Answer::Number(heights.len() as u32)
 }

@@ -10,7 +10,7 @@ use Rattle.terms.specs.declared.Answer.the-variants.{Number}
 use Rattle.terms.specs.declared.Verdict.the-variants.{Accepted}
 use Rattle.verdicts.specs.Verdicts.{sightVerdict}
 use Rattle.verdicts.proofs.Laws.{sight-in-range}
-use Rattle.sight.specs.Comparisons.{total, comparisons, comparisonsAnswer}
+use Rattle.sight.specs.Comparisons.{total, comparisonsToward, comparisonsAnswer}
 use Rattle.sight.proofs.Counted.{comparisons-walk}
 use Rattle.sight.proofs.comparisons.Statement.{statement}
 use Rattle.sight.proofs.comparisons.Tie as tie
@@ -42,11 +42,11 @@ fill-sights-requires c κs =
     let inside = sight-in-range _ _ _ _ _ (accepted (c .before)) in
     ((omega (arith, inside .0), omega arith), (omega arith, inside .2 .farthest .1))
 
-cast-t15 : tie.Need-cast-t15
-cast-t15 c =
+cast-t16 : tie.Need-cast-t16
+cast-t16 c =
     let s = c .before .before .before .before .before .before .args in
     let inside = sight-in-range _ _ _ _ _ (accepted (c .before .before .before)) in
-    let most = comparisons-walk (s .heights .now) (s .station) (s .eye) (s .object) (s .farthest) 1 (inside .2 .farthest .1) in
+    let most = comparisons-walk (s .heights .now) (s .back) (s .station) (s .eye) (s .object) (s .farthest) 1 (inside .2 .farthest .1) in
     record { fits = omega (arith, c .before .fill-sights .ensures .0, most) }
 
 -- a walk over one station
@@ -60,7 +60,7 @@ returns-2 c =
     let s = c .before .before .before .before .before .before .args in
     let count = c .before .fill-sights .ensures .0 in
     rw (accepted (c .before .before .before))
-    (ap Number (count ∙ one-is (λ i. comparisons (s .heights .now) i (s .eye) (s .object) (s .farthest)) (s .station)))
+    (ap Number (count ∙ one-is (λ i. comparisonsToward (s .heights .now) (s .back) i (s .eye) (s .object) (s .farthest)) (s .station)))
 
 pub comparisons-spec : {M : Type 1} → statement M
 comparisons-spec =
@@ -72,5 +72,5 @@ comparisons-spec =
     enum-told
     slice-aggregate-fill-sights
     fill-sights-requires
-    cast-t15
+    cast-t16
     returns-2)

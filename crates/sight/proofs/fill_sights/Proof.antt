@@ -1,10 +1,11 @@
--- `fill_sights` meets its contract. The invariant of the search: the stations less than `next` metres ahead are all seen, none of
+-- `fill_sights` meets its contract. All laws are said of the heights as the driver meets them, of which `faced-at` says where the code reads
+-- each. The invariant of the search: the stations less than `next` metres ahead are all seen, none of
 -- them lies above the line to the road at `i + run`, and `rise` is how far that lies above the eye. The comparisons of the code are
 -- those of the laws in proofs/Steepest.antt, as every height fits 32 bits and every distance is at most 8,000; how many they are by then
 -- is proofs/Counted.antt's. The invariant of the walk: the first `k` places are filled, and the comparisons are those of `k` stations. The
 -- measures are what is left to the end.
-use mathlib.Core.Path.{_≡_, refl, ap, _∙_}
-use mathlib.Core.Bool.{true}
+use mathlib.Core.Path.{_≡_, refl, sym, ap, _∙_}
+use mathlib.Core.Bool.{Bool, true}
 use mathlib.Core.List.{List}
 use mathlib.Core.Logic.{⊎-elim}
 use Prim.Native.Nat.{ℕ, _+_, _-_, _≤_, _<_, _^_, min}
@@ -13,14 +14,17 @@ use borrow.Author.Needs.{needs, sfits-of}
 use lib.IntN.{ℤ, pos, _+ℤ_, _-ℤ_}
 use lib.ListN.{length}
 use mir.Syntax.{w32, w64}
-use mir.Val.{SFits, toZ}
+use mir.Val.{SFits, toZ, ofZ}
 use Rattle.whole.specs.Fill.{filled}
 use Rattle.whole.proofs.Fill.{filled-none, filled-next, filled-to}
-use Rattle.whole.proofs.Range.{Reads, fitB, natB, addB, negB, asB, countB, countR, fits-by, same-by, sizes, reads}
-use Rattle.whole.proofs.Machine.{le-yes, le-no, lt-yes, lt-no}
+use Rattle.whole.proofs.Range.{Reads, fitB, natB, addB, negB, asB, leafB, countB, countR, fits-by, same-by, sizes, reads}
+use Rattle.whole.proofs.Machine.{plain, le-yes, le-no, lt-yes, lt-no}
 use Rattle.terms.specs.Limits.{greatestFarthest}
-use Rattle.sight.specs.Sight.{heightAt, availableSight}
-use Rattle.sight.specs.Comparisons.{total, comparisons}
+use Rattle.directions.specs.Directions.{faced, counted}
+use Rattle.directions.proofs.Laws.{faced-length, faced-at, counted-below, counted-twice}
+use Rattle.sight.specs.Sight.{heightAt}
+use Rattle.sight.specs.Operations.{sightToward}
+use Rattle.sight.specs.Comparisons.{total, comparisonsToward}
 use Rattle.sight.proofs.Counted.{
   total-none,
   total-next,
@@ -29,11 +33,11 @@ use Rattle.sight.proofs.Counted.{
   Counted,
   counted-none,
   counted-once,
-  counted-twice,
+  counted-both,
   counted-all,
   counted-hidden,
 }
-use Rattle.sight.proofs.Reach.{sight-le-far}
+use Rattle.sight.proofs.Toward.{toward-le-far}
 use Rattle.sight.proofs.Steepest.{
   NoSteeper,
   Flatter,
@@ -58,85 +62,145 @@ record Searched (list : List ℤ) (i e o end before now bits run next : ℕ) : T
   counted : Counted list i e before now next
 
 abbrev Inv-search : tie.InvT-search
-Inv-search heights first count e o far sights height object compared₀ k i ahead end eye rise₀ run₀ next₀ compared rise run next =
-    Searched heights i e o end compared₀ compared rise run next
+Inv-search heights back first count e o far sights height object n compared₀ k station i ahead end eye rise₀ run₀ next₀ compared rise run next =
+    Searched (faced back heights) i e o end compared₀ compared rise run next
 
 abbrev μ-search : tie.MeasureT-search
-μ-search heights first count e o far sights height object compared₀ k i ahead end eye rise₀ run₀ next₀ compared rise run next = end - next
+μ-search heights back first count e o far sights height object n compared₀ k station i ahead end eye rise₀ run₀ next₀ compared rise run next =
+    end - next
 
-record Walked (list : List ℤ) (first count e o far : ℕ) (before now : List ℕ) (compared k : ℕ) : Type 0 where
+record Walked (list : List ℤ) (back : Bool) (first count e o far : ℕ) (before now : List ℕ) (compared k : ℕ) : Type 0 where
   within : k ≤ count
   as-long : length now ≡ length before
-  places : now ≡ filled (λ t. availableSight list (first + t) e o far) 0 k before
-  counted : compared ≡ total (λ t. comparisons list (first + t) e o far) k
+  places : now ≡ filled (λ t. sightToward list back (first + t) e o far) 0 k before
+  counted : compared ≡ total (λ t. comparisonsToward list back (first + t) e o far) k
 
 abbrev Inv-loop : tie.InvT-loop
-Inv-loop heights first count e o far sights₀ height object compared₀ k₀ sights compared k =
-    Walked heights first count e o far sights₀ sights compared k
+Inv-loop heights back first count e o far sights₀ height object n compared₀ k₀ sights compared k =
+    Walked heights back first count e o far sights₀ sights compared k
 
 abbrev μ-loop : tie.MeasureT-loop
-μ-loop heights first count e o far sights₀ height object compared₀ k₀ sights compared k = count - k
+μ-loop heights back first count e o far sights₀ height object n compared₀ k₀ sights compared k = count - k
 
 -- one station more, short of the end
 nearer : {next end : ℕ} → next ≤ end → (next ≡ end → ⊥) → (next + 1 ≤ end) × (end - (next + 1) < end - next)
 nearer l n = (omega (arith, n), omega (arith, n))
 
 -- ---- what the code computes with: heights that fit 32 bits, and counts that are small
-record Known (list : List ℤ) (i e o bits run next : ℕ) : Type 0 where
-  here : SFits w32 (heightAt list i)
-  there : SFits w32 (heightAt list (i + next))
+-- a height that was read from the list is the one that the driver meets
+abbrev read-as : {z x : ℤ} → SFits w32 z → z ≡ x → Reads (toZ w32 (ofZ w32 z)) x
+read-as f e = record { size = leafB w32 f; good = true; same = λ t. plain f ∙ e }
+
+record Known (list met : List ℤ) (station at i e o bits run next : ℕ) : Type 0 where
+  here : SFits w32 (heightAt list station)
+  there : SFits w32 (heightAt list at)
+  here-is : Reads (toZ w32 (ofZ w32 (heightAt list station))) (heightAt met i)
+  there-is : Reads (toZ w32 (ofZ w32 (heightAt list at))) (heightAt met (i + next))
   e-is : Reads (toZ w64 e) (pos e)
   o-is : Reads (toZ w64 o) (pos o)
   next-is : Reads (toZ w64 next) (pos next)
   run-is : Reads (toZ w64 run) (pos run)
-  rise-is : Reads (toZ w64 bits) (rise (heightAt list) e i run)
+  rise-is : Reads (toZ w64 bits) (rise (heightAt met) e i run)
 
-abbrev known : {list : List ℤ} {i e o end before now bits run next : ℕ} → Searched list i e o end before now bits run next →
-    e ≤ 2 ^ 32 → o ≤ 2 ^ 32 → SFits w32 (heightAt list i) → SFits w32 (heightAt list (i + next)) → Known list i e o bits run next
-known {e = e} {o = o} {run = run} {next = next} v le lo here there = record {
+abbrev known : {list met : List ℤ} {station at i e o end before now bits run next : ℕ} → Searched met i e o end before now bits run next →
+    e ≤ 2 ^ 32 → o ≤ 2 ^ 32 → SFits w32 (heightAt list station) → SFits w32 (heightAt list at) →
+    heightAt list station ≡ heightAt met i → heightAt list at ≡ heightAt met (i + next) → Known list met station at i e o bits run next
+known {e = e} {o = o} {run = run} {next = next} v le lo here there same-here same-there = record {
   here = here;
   there = there;
+  here-is = read-as here same-here;
+  there-is = read-as there same-there;
   e-is = countR w64 e (2 ^ 32) le;
   o-is = countR w64 o (2 ^ 32) lo;
   next-is = countR w64 next (greatestFarthest + 1) (omega (arith, v .near, v .within));
   run-is = countR w64 run (greatestFarthest + 1) (omega (arith, v .near, v .within, v .passed .before));
   rise-is = record {
-    size = asB (v .rises) (addB (fitB (v .fits)) (negB (addB (fitB here) (natB {k = e} (2 ^ 32) le))));
+    size = asB (v .rises) (addB (fitB (v .fits)) (negB (addB (asB (sym same-here) (fitB here)) (natB {k = e} (2 ^ 32) le))));
     good = true;
     same = λ t. v .rises;
   };
 }
 
 -- at a station
-module _ (c : tie.After-eye Inv-search μ-search Inv-loop μ-loop) where
+module _ (c : tie.After-counted Inv-search μ-search Inv-loop μ-loop) where
   abbrev walk : tie.At-loop Inv-search μ-search Inv-loop μ-loop
-  walk = c .before .before .before
+  walk = c .before .before
 
   abbrev start : tie.Start Inv-search μ-search Inv-loop μ-loop
-  start = walk .before
+  start = walk .before .before
+
+  abbrev list : List ℤ
+  list = start .args .heights .now
+
+  abbrev walked : ℕ
+  walked = start .args .first + walk .loop .k
+
+  -- the heights as the driver meets them, and the station's place among them
+  abbrev met : List ℤ
+  met = faced (start .args .back) list
 
   abbrev at : ℕ
-  at = start .args .first + walk .loop .k
+  at = c .counted .result
 
-  -- the end lies just behind the lesser of the farthest distance and the stations left
-  end-is : c .before .if1 .end ≡ min (start .args .far) (length (start .args .heights .now) - 1 - at) + 1
-  end-is = ⊎-elim (λ w. omega arith) (λ w. omega arith) (c .before .if1 .came)
+  on : at < length list
+  on = omega (arith, c .counted .ensures, counted-below (start .args .back) (length list) walked (omega arith))
+
+  met-length : length met ≡ length list
+  met-length = faced-length (start .args .back) list
+
+  here-is : heightAt list walked ≡ heightAt met at
+  here-is =
+      let back = start .args .back in let n = length list in
+      sym
+      (faced-at back list at (pos 0) on
+      ∙ ap (heightAt list) (ap (counted back n) (c .counted .ensures) ∙ counted-twice back n walked (omega arith)))
+
+abbrev place : tie.After-eye Inv-search μ-search Inv-loop μ-loop → tie.After-counted Inv-search μ-search Inv-loop μ-loop
+place c = c .before .before
+
+-- the end lies just behind the lesser of the farthest distance and the stations left
+end-is : (c : tie.After-eye Inv-search μ-search Inv-loop μ-loop) → let p = place c in
+    c .before .if1 .end ≡ min (start p .args .far) (length (met p) - 1 - at p) + 1
+end-is c =
+    let inside = on (place c) in let size = met-length (place c) in
+    ⊎-elim (λ w. omega (arith, inside, size)) (λ w. omega (arith, inside, size)) (c .before .if1 .came)
+
+-- the next station ahead is on the road
+module _ (c : tie.After-counted2 Inv-search μ-search Inv-loop μ-loop) where
+  abbrev from : tie.At-search Inv-search μ-search Inv-loop μ-loop
+  from = c .before .before
+
+  ahead-on : at (place (from .before)) + from .search .next < length (list (place (from .before)))
+  ahead-on =
+      let l = from .search .inv in
+      omega (arith, l .near, nearer (l .within) (c .before .if2 .left), met-length (place (from .before)))
+
+  ahead-below : c .counted2 .result < length (list (place (from .before)))
+  ahead-below =
+      let p = place (from .before) in
+      omega (arith, c .counted2 .ensures, counted-below (start p .args .back) (length (list p)) (at p + from .search .next) ahead-on)
 
 -- at the next station ahead
 module _ (c : tie.After-road Inv-search μ-search Inv-loop μ-loop) where
   abbrev head : tie.At-search Inv-search μ-search Inv-loop μ-loop
-  head = c .before .before
+  head = from (c .before)
 
-  abbrev outer : tie.After-eye Inv-search μ-search Inv-loop μ-loop
-  outer = head .before
+  abbrev outer : tie.After-counted Inv-search μ-search Inv-loop μ-loop
+  outer = place (head .before)
+
+  there-is : heightAt (list outer) (c .before .counted2 .result) ≡ heightAt (met outer) (at outer + head .search .next)
+  there-is =
+      ap (heightAt (list outer)) (c .before .counted2 .ensures)
+      ∙ sym (faced-at (start outer .args .back) (list outer) (at outer + head .search .next) (pos 0) (ahead-on (c .before)))
 
   abbrev at-next : let s = start outer .args in let l = head .search in
-      Known (s .heights .now) (at outer) (s .e) (s .o) (l .rise) (l .run) (l .next)
-  at-next = known (head .search .inv) (omega arith) (omega arith) (sfits-of (outer .eye .given)) (sfits-of (c .road .given))
+      Known (list outer) (met outer) (walked outer) (c .before .counted2 .result) (at outer) (s .e) (s .o) (l .rise) (l .run) (l .next)
+  at-next =
+      known (head .search .inv) (omega arith) (omega arith) (sfits-of (head .before .eye .given)) (sfits-of (c .road .given)) (here-is outer) there-is
 
   -- the line to a point t metres ahead
   abbrev lineTo : ℕ → ℤ
-  lineTo t = let s = start outer .args in rise (heightAt (s .heights .now)) (s .e) (at outer) t
+  lineTo t = rise (heightAt (met outer)) (start outer .args .e) (at outer) t
 
 -- ---- what the comparisons tell
 road-above : (c : tie.Then3 Inv-search μ-search Inv-loop μ-loop) →
@@ -154,33 +218,37 @@ object-below c = let v = at-next (c .before .before) in lt-yes (c .if4 .taken) (
 
 -- ---- the search yields the station's sight, with the station's comparisons
 -- the available sight from the station
-abbrev sightAt : tie.After-eye Inv-search μ-search Inv-loop μ-loop → ℕ
-sightAt c = let s = start c .args in availableSight (s .heights .now) (at c) (s .e) (s .o) (s .far)
+abbrev sightAt : tie.After-counted Inv-search μ-search Inv-loop μ-loop → ℕ
+sightAt c = let s = start c .args in sightToward (list c) (s .back) (walked c) (s .e) (s .o) (s .far)
 
 -- what is compared by the end of the search from it
-abbrev comparedAt : tie.After-eye Inv-search μ-search Inv-loop μ-loop → ℕ
-comparedAt c = let s = start c .args in walk c .loop .compared + comparisons (s .heights .now) (at c) (s .e) (s .o) (s .far)
+abbrev comparedAt : tie.After-counted Inv-search μ-search Inv-loop μ-loop → ℕ
+comparedAt c = let s = start c .args in walk c .loop .compared + comparisonsToward (list c) (s .back) (walked c) (s .e) (s .o) (s .far)
 
 -- it comes to its end,
 all-seen : (c : tie.Then2 Inv-search μ-search Inv-loop μ-loop) →
-    let h = c .before in (h .search .next - 1 ≡ sightAt (h .before)) × (h .search .compared ≡ comparedAt (h .before))
+    let h = c .before in let p = place (h .before) in (h .search .next - 1 ≡ sightAt p) × (h .search .compared ≡ comparedAt p)
+unfolding sightToward comparisonsToward
 all-seen c =
-    let h = c .before in let s = start (h .before) .args in let l = h .search .inv in
-    let end : h .search .next ≡ min (s .far) (length (s .heights .now) - 1 - at (h .before)) + 1 = omega (arith, end-is (h .before)) in
+    let h = c .before in let p = place (h .before) in let l = h .search .inv in
+    let end : h .search .next ≡ min (start p .args .far) (length (met p) - 1 - at p) + 1 = omega (arith, end-is (h .before)) in
+    rw (← p .counted .ensures)
     (passed-all _ _ (l .passed) end, counted-all (l .counted) (l .passed) _ end)
 
 -- or to a hidden station
 next-hidden : (c : tie.Then4 Inv-search μ-search Inv-loop μ-loop) →
     let h = head (c .before .before) in
-    (h .search .next - 1 ≡ sightAt (h .before)) × (h .search .compared + 1 + 1 ≡ comparedAt (h .before))
+    let p = place (h .before) in (h .search .next - 1 ≡ sightAt p) × (h .search .compared + 1 + 1 ≡ comparedAt p)
+unfolding sightToward comparisonsToward
 next-hidden c =
-    let h = head (c .before .before) in let s = start (h .before) .args in
+    let h = head (c .before .before) in let p = place (h .before) in
     let l = h .search .inv in let below = object-below c in
-    let end : h .search .next ≤ min (s .far) (length (s .heights .now) - 1 - at (h .before)) = omega (arith, end-is (h .before)) in
+    let end : h .search .next ≤ min (start p .args .far) (length (met p) - 1 - at p) = omega (arith, end-is (h .before)) in
+    rw (← p .counted .ensures)
     (passed-hidden _ _ (l .passed) end below, counted-hidden (l .counted) (l .passed) _ end (road-below (c .before)) below)
 
 ended : (c : tie.Joined2 Inv-search μ-search Inv-loop μ-loop) →
-    (c .if2 .sight ≡ sightAt (c .before .before)) × (c .if2 .compared ≡ comparedAt (c .before .before))
+    let p = place (c .before .before) in (c .if2 .sight ≡ sightAt p) × (c .if2 .compared ≡ comparedAt p)
 ended c =
     ⊎-elim
     (λ w.
@@ -188,10 +256,10 @@ ended c =
     (omega (arith, w .3, w .0 .taken, all .0), w .2 ∙ all .1))
     (λ w.
     let hidden = next-hidden record {
-      before = record { before = record { before = record { before = c .before; if2 = w .0 }; road = w .1 }; if3 = w .2 };
-      if4 = w .3;
+      before = record { before = record { before = record { before = record { before = c .before; if2 = w .0 }; counted2 = w .1 }; road = w .2 }; if3 = w .3 };
+      if4 = w .4;
     } in
-    (w .5 ∙ hidden .0, w .4 ∙ hidden .1))
+    (w .6 ∙ hidden .0, w .5 ∙ hidden .1))
     (c .if2 .came)
 
 cast-height : tie.Need-cast-height Inv-search μ-search Inv-loop μ-loop
@@ -203,11 +271,14 @@ cast-object c = search needs
 loop-holds : tie.Need-loop-holds Inv-search μ-search Inv-loop μ-loop
 loop-holds c = record { within = omega arith; as-long = refl; places = filled-none _ 0 _; counted = total-none _ }
 
-add-i : tie.Need-add-i Inv-search μ-search Inv-loop μ-loop
-add-i c = record { fits = omega arith }
+add-station : tie.Need-add-station Inv-search μ-search Inv-loop μ-loop
+add-station c = record { fits = omega arith }
+
+counted-requires : tie.Need-counted-requires Inv-search μ-search Inv-loop μ-loop
+counted-requires c κs = search needs
 
 sub-ahead : tie.Need-sub-ahead Inv-search μ-search Inv-loop μ-loop
-sub-ahead c = omega arith
+sub-ahead c = omega (arith, on c)
 
 add-end : tie.Need-add-end Inv-search μ-search Inv-loop μ-loop
 add-end c = record { fits = omega arith }
@@ -222,23 +293,23 @@ cast-eye : tie.Need-cast-eye Inv-search μ-search Inv-loop μ-loop
 cast-eye c = fits-by (search (sizes, sfits-of)) tt
 
 add-eye : tie.Need-add-eye Inv-search μ-search Inv-loop μ-loop
-add-eye c = let e = countB w64 (start c .args .e) (2 ^ 32) (omega arith) in fits-by (search (sizes, sfits-of) depth 16) tt
+add-eye c = let e = countB w64 (start (place c) .args .e) (2 ^ 32) (omega arith) in fits-by (search (sizes, sfits-of) depth 16) tt
 
 sub-rise : tie.Need-sub-rise Inv-search μ-search Inv-loop μ-loop
 sub-rise c =
-    let none = countB w64 0 0 (omega arith) in let e = countB w64 (start c .args .e) (2 ^ 32) (omega arith) in
+    let none = countB w64 0 0 (omega arith) in let e = countB w64 (start (place c) .args .e) (2 ^ 32) (omega arith) in
     fits-by (search sizes depth 16) tt
 
 search-holds : tie.Need-search-holds Inv-search μ-search Inv-loop μ-loop
 search-holds c =
-    let s = start c .args in
-    let under : at c + 0 ≡ at c = omega arith in
+    let p = place c in let s = start p .args in
+    let under : at p + 0 ≡ at p = omega arith in
     let none = countR w64 0 0 (omega arith) in let e = countR w64 (s .e) (2 ^ 32) (omega arith) in
     record {
-      near = (omega (arith, end-is c), omega (arith, end-is c));
+      near = (omega (arith, end-is c), omega (arith, end-is c, on p, met-length p));
       within = omega (arith, end-is c);
-      fits = rw under (sfits-of (c .eye .given));
-      rises = same-by {z = pos 0 -ℤ pos (s .e)} (search reads depth 20) tt ∙ rise-under (heightAt (s .heights .now)) (s .e) (at c);
+      fits = rw (under, ← here-is p) (sfits-of (c .eye .given));
+      rises = same-by {z = pos 0 -ℤ pos (s .e)} (search reads depth 20) tt ∙ rise-under (heightAt (met p)) (s .e) (at p);
       passed = passed-none;
       counted = counted-none _ _ _ _;
     }
@@ -249,14 +320,17 @@ sub-sight c = omega arith
 add-following : tie.Need-add-following Inv-search μ-search Inv-loop μ-loop
 add-following c = record { fits = omega arith }
 
-add-road : tie.Need-add-road Inv-search μ-search Inv-loop μ-loop
-add-road c = record { fits = omega arith }
+add-counted : tie.Need-add-counted Inv-search μ-search Inv-loop μ-loop
+add-counted c = record { fits = omega (arith, c .before .search .inv .near, c .before .search .inv .within, met-length (place (c .before .before))) }
+
+counted-requires-2 : tie.Need-counted-requires-2 Inv-search μ-search Inv-loop μ-loop
+counted-requires-2 c κs = search needs
 
 mul-road : tie.Need-mul-road Inv-search μ-search Inv-loop μ-loop
-mul-road c = record { fits = omega arith }
+mul-road c = record { fits = omega (arith, ahead-below c) }
 
 shared-slice-copy-out-road : tie.Need-shared-slice-copy-out-road Inv-search μ-search Inv-loop μ-loop
-shared-slice-copy-out-road c = omega arith
+shared-slice-copy-out-road c = omega (arith, ahead-below c)
 
 cast-road : tie.Need-cast-road Inv-search μ-search Inv-loop μ-loop
 cast-road c = fits-by (search (sizes, sfits-of)) tt
@@ -274,8 +348,8 @@ mul-line c = let v = at-next c in fits-by (search sizes depth 16) tt
 count-small : (c : tie.After-road Inv-search μ-search Inv-loop μ-loop) → head c .search .compared ≤ 2 ^ 32
 count-small c =
     let s = start (outer c) .args in let w = walk (outer c) .loop in let l = head c .search in
-    let others = comparisons-walk (s .heights .now) (s .first) (s .e) (s .o) (s .far) (w .k) (omega arith) in
-    let own = compared-most (s .heights .now) (at (outer c)) (s .e) (l .next - 1) in
+    let others = comparisons-walk (list (outer c)) (s .back) (s .first) (s .e) (s .o) (s .far) (w .k) (omega arith) in
+    let own = compared-most (met (outer c)) (at (outer c)) (s .e) (l .next - 1) in
     omega (arith, others, own, w .inv .within, w .inv .counted, l .inv .near, l .inv .within, l .inv .counted .sum)
 
 add-compared : tie.Need-add-compared Inv-search μ-search Inv-loop μ-loop
@@ -303,40 +377,40 @@ sub-sight-2 : tie.Need-sub-sight-2 Inv-search μ-search Inv-loop μ-loop
 sub-sight-2 c = omega (arith, head (c .before .before) .search .inv .passed .before)
 
 search-less : tie.Need-search-less Inv-search μ-search Inv-loop μ-loop
-search-less c = nearer (head (c .before) .search .inv .within) (c .before .before .if2 .left) .1
+search-less c = nearer (head (c .before) .search .inv .within) (c .before .before .before .if2 .left) .1
 
 search-again : tie.Need-search-again Inv-search μ-search Inv-loop μ-loop
 search-again c =
     let v = at-next (c .before) in let l = head (c .before) .search .inv in
     record {
       near = l .near;
-      within = nearer (l .within) (c .before .before .if2 .left) .0;
-      fits = v .there;
+      within = nearer (l .within) (c .before .before .before .if2 .left) .0;
+      fits = rw (← there-is (c .before)) (v .there);
       rises = same-by (search reads depth 20) tt;
       passed = passed-steep (l .passed) (road-above c);
       counted = counted-once (l .counted) (l .passed) (road-above c);
     }
 
 search-less-2 : tie.Need-search-less-2 Inv-search μ-search Inv-loop μ-loop
-search-less-2 c = nearer (head (c .before .before) .search .inv .within) (c .before .before .before .if2 .left) .1
+search-less-2 c = nearer (head (c .before .before) .search .inv .within) (c .before .before .before .before .if2 .left) .1
 
 search-again-2 : tie.Need-search-again-2 Inv-search μ-search Inv-loop μ-loop
 search-again-2 c =
     let v = at-next (c .before .before) in let l = head (c .before .before) .search .inv in
     record {
       near = l .near;
-      within = nearer (l .within) (c .before .before .before .if2 .left) .0;
+      within = nearer (l .within) (c .before .before .before .before .if2 .left) .0;
       fits = l .fits;
       rises = l .rises;
       passed = passed-seen (l .passed) (road-below (c .before)) (lt-no (c .if4 .left) (search reads depth 20) tt);
-      counted = counted-twice (l .counted) (l .passed) (road-below (c .before));
+      counted = counted-both (l .counted) (l .passed) (road-below (c .before));
     }
 
 cast-sights : tie.Need-cast-sights Inv-search μ-search Inv-loop μ-loop
 cast-sights c =
-    let station = c .before .before .before in let s = start station .args in
-    let le = sight-le-far (s .heights .now) (at station) (s .e) (s .o) (s .far) in
-    record { fits = omega (arith, ended (c .before) .0) }
+    let station = place (c .before .before .before) in let s = start station .args in
+    let le = toward-le-far (list station) (s .back) (walked station) (s .e) (s .o) (s .far) in
+    record { fits = omega (arith, le, ended (c .before) .0) }
 
 mul-sights : tie.Need-mul-sights Inv-search μ-search Inv-loop μ-loop
 mul-sights c = record { fits = omega arith }
@@ -352,9 +426,9 @@ loop-less c = omega arith
 
 loop-again : tie.Need-loop-again Inv-search μ-search Inv-loop μ-loop
 loop-again c =
-    let station = c .before .before .before in let s = start station .args in let l = walk station .loop in
-    let sight : ℕ → ℕ = λ t. availableSight (s .heights .now) (s .first + t) (s .e) (s .o) (s .far) in
-    let count : ℕ → ℕ = λ t. comparisons (s .heights .now) (s .first + t) (s .e) (s .o) (s .far) in
+    let station = place (c .before .before .before) in let s = start station .args in let l = walk station .loop in
+    let sight : ℕ → ℕ = λ t. sightToward (s .heights .now) (s .back) (s .first + t) (s .e) (s .o) (s .far) in
+    let count : ℕ → ℕ = λ t. comparisonsToward (s .heights .now) (s .back) (s .first + t) (s .e) (s .o) (s .far) in
     record {
       within = search needs;
       as-long = search needs;
@@ -381,7 +455,8 @@ fill-sights-spec =
     cast-height
     cast-object
     loop-holds
-    add-i
+    add-station
+    counted-requires
     sub-ahead
     add-end
     mul-eye
@@ -392,7 +467,8 @@ fill-sights-spec =
     search-holds
     sub-sight
     add-following
-    add-road
+    add-counted
+    counted-requires-2
     mul-road
     shared-slice-copy-out-road
     cast-road

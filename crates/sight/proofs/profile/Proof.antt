@@ -9,8 +9,7 @@ use Rattle.terms.specs.declared.Verdict.the-variants.{Accepted}
 use Rattle.terms.proofs.Laws.{ends-fault, ends-no-room, ends-filled}
 use Rattle.verdicts.specs.Verdicts.{profileVerdict}
 use Rattle.verdicts.proofs.Laws.{profile-in-range}
-use Rattle.sight.specs.Sight.{availableSight}
-use Rattle.sight.specs.Operations.{profileAnswer, profileList}
+use Rattle.sight.specs.Operations.{sightToward, profileAnswer, profileList}
 use Rattle.sight.proofs.profile.Statement.{statement}
 use Rattle.sight.proofs.profile.Tie as tie
 
@@ -44,8 +43,8 @@ fill-sights-requires c κs =
     let inside = profile-in-range _ _ _ _ (accepted (c .before .before)) in
     ((omega arith, omega arith), (inside .0 .1, inside .1 .farthest .1))
 
-cast-t14 : tie.Need-cast-t14
-cast-t14 c =
+cast-t15 : tie.Need-cast-t15
+cast-t15 c =
     let room = c .before .before .before .before in
     record { fits = omega (arith, profile-in-range _ _ _ _ (accepted (room .before)) .0) }
 
@@ -56,7 +55,7 @@ returns-3 : tie.Need-returns-3
 unfolding profileAnswer profileList
 returns-3 c =
     let room = c .before .before .before .before in let list = c .before .before .fill-sights .ensures .1 in
-    ends-filled (λ i. availableSight _ i _ _ _) _ _ _ _ (accepted (room .before)) (room .if1 .left) (simp zero-add at list)
+    ends-filled (λ i. sightToward _ _ i _ _ _) _ _ _ _ (accepted (room .before)) (room .if1 .left) (simp zero-add at list)
 
 pub profile-spec : {M : Type 1} → statement M
 profile-spec =
@@ -68,6 +67,6 @@ profile-spec =
     enum-told
     returns-2
     fill-sights-requires
-    cast-t14
+    cast-t15
     same-length
     returns-3)

@@ -1,6 +1,7 @@
 -- `sight` meets its contract: refused by its verdict, else the walk over one station fills its one place with the available sight,
 -- which is at most the farthest distance.
 use mathlib.Core.Path.{_≡_, refl, ap, sym, _∙_}
+use mathlib.Core.Bool.{Bool}
 use mathlib.Core.List.{List, [], _∷_}
 use Prim.Native.Nat.{ℕ, _+_}
 use borrow.Author.Needs.{needs}
@@ -13,9 +14,8 @@ use Rattle.terms.specs.declared.Answer.the-variants.{Number}
 use Rattle.terms.specs.declared.Verdict.the-variants.{Accepted}
 use Rattle.verdicts.specs.Verdicts.{sightVerdict}
 use Rattle.verdicts.proofs.Laws.{sight-in-range}
-use Rattle.sight.specs.Sight.{availableSight}
-use Rattle.sight.specs.Operations.{sightAnswer}
-use Rattle.sight.proofs.Reach.{sight-le-far}
+use Rattle.sight.specs.Operations.{sightToward, sightAnswer}
+use Rattle.sight.proofs.Toward.{toward-le-far}
 use Rattle.sight.proofs.sight.Statement.{statement}
 use Rattle.sight.proofs.sight.Tie as tie
 
@@ -39,10 +39,10 @@ enum-told : tie.Need-enum-told
 enum-told c = search needs
 
 -- what the one place holds
-one-is : (list : List ℤ) (i e o far : ℕ) (out : List ℕ) →
-    out ≡ filled (λ k. availableSight list (i + k) e o far) 0 1 (0 ∷ []) → getD out 0 0 ≡ availableSight list i e o far
+one-is : (list : List ℤ) (back : Bool) (i e o far : ℕ) (out : List ℕ) →
+    out ≡ filled (λ k. sightToward list back (i + k) e o far) 0 1 (0 ∷ []) → getD out 0 0 ≡ sightToward list back i e o far
 unfolding filled
-one-is list i e o far out p = rw (p, add-zero i) refl
+one-is list back i e o far out p = rw (p, add-zero i) refl
 
 slice-aggregate-fill-sights : tie.Need-slice-aggregate-fill-sights
 slice-aggregate-fill-sights c = search needs
@@ -52,19 +52,19 @@ fill-sights-requires c κs =
     let inside = sight-in-range _ _ _ _ _ (accepted (c .before)) in
     ((omega (arith, inside .0), omega arith), (omega arith, inside .2 .farthest .1))
 
-array-read-t16 : tie.Need-array-read-t16
-array-read-t16 c = search needs
+array-read-t17 : tie.Need-array-read-t17
+array-read-t17 c = search needs
 
-cast-t17 : tie.Need-cast-t17
-cast-t17 c =
+cast-t18 : tie.Need-cast-t18
+cast-t18 c =
     let s = c .before .before .before .before .before .before .args in
-    let le = sight-le-far (s .heights .now) (s .station) (s .eye) (s .object) (s .farthest) in
-    record { fits = omega (arith, one-is _ _ _ _ _ _ (c .before .fill-sights .ensures .1)) }
+    let le = toward-le-far (s .heights .now) (s .back) (s .station) (s .eye) (s .object) (s .farthest) in
+    record { fits = omega (arith, one-is _ _ _ _ _ _ _ (c .before .fill-sights .ensures .1)) }
 
 returns-2 : tie.Need-returns-2
 unfolding sightAnswer
 returns-2 c =
-    rw (accepted (c .before .before .before)) (ap Number (one-is _ _ _ _ _ _ (c .before .fill-sights .ensures .1)))
+    rw (accepted (c .before .before .before)) (ap Number (one-is _ _ _ _ _ _ _ (c .before .fill-sights .ensures .1)))
 
 pub sight-spec : {M : Type 1} → statement M
 sight-spec =
@@ -76,6 +76,6 @@ sight-spec =
     enum-told
     slice-aggregate-fill-sights
     fill-sights-requires
-    array-read-t16
-    cast-t17
+    array-read-t17
+    cast-t18
     returns-2)
