@@ -18,7 +18,7 @@ use Rattle.slow_sight.proofs.profile.Reads.{Learnt as SlowProfile}
 
 -- the list of sights among what was lent, as it is at the end
 abbrev sightsIn : (κs : Lfts 2) → AtExit (endedOf 2 profile.ps profile.r) κs → List ℕ
-sightsIn κs end = now (end .1 .1 .1 .1 .0)
+sightsIn κs end = now (end .1 .1 .1 .1 .1 .0)
 
 pub record SameSights : Type 0 where
   -- from one station: to the same call both answer the same

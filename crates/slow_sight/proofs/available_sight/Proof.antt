@@ -1,7 +1,8 @@
 -- `available_sight` meets its contract. The invariant of the outer loop: the object is seen at every station up to `s` metres ahead, and
 -- `s` is within the limit. That of the inner loop: every station from `i + 1` on before `k` lets the line to the object at `j` pass. So
 -- where the inner loop comes to its end the object at `j` is seen, and where it is left it is hidden. At both ways out of the outer loop
--- `sight-by` says that `s` is the available sight. The measures are what is left to the limit, and to `j`.
+-- `sight-by` says that `s` is the available sight. The heights are those that the driver meets, which are as many. The measures are what is
+-- left to the limit, and to `j`.
 use mathlib.Core.Path.{_≡_, sym, _∙_, subst}
 use mathlib.Core.Bool.{true, false, not}
 use mathlib.Core.List.{List}
@@ -14,6 +15,8 @@ use borrow.Author.Tests.{not-true, not-false}
 use lib.Dec.{T}
 use lib.IntN.{ℤ}
 use lib.ListN.{length}
+use Rattle.directions.specs.Directions.{faced}
+use Rattle.directions.proofs.Laws.{faced-length}
 use Rattle.sight.specs.Sight.{heightAt, clears, seen}
 use Rattle.sight.proofs.Reach.{sight-by}
 use Rattle.sight.proofs.Seen.{Between, one-more, between-at, between-by}
@@ -29,28 +32,35 @@ abbrev SeenAhead : List ℤ → ℕ → ℕ → ℕ → ℕ → Type 0
 SeenAhead list i e o t = T (seen (heightAt list) e o i (i + t))
 
 abbrev Inv-loop : tie.InvT-loop
-Inv-loop heights i e o far left limit s next j k₀ k = (i < k) × Between (Passes heights i e o next) i k
+Inv-loop heights back i e o far left limit s next j k₀ k = (i < k) × Between (Passes (faced back heights) i e o next) i k
 
 abbrev μ-loop : tie.MeasureT-loop
-μ-loop heights i e o far left limit s next j k₀ k = j - k
+μ-loop heights back i e o far left limit s next j k₀ k = j - k
 
 abbrev Inv-objects : tie.InvT-objects
-Inv-objects heights i e o far left limit s₀ s = (s ≤ limit) × Between (SeenAhead heights i e o) 0 (s + 1)
+Inv-objects heights back i e o far left limit s₀ s = (s ≤ limit) × Between (SeenAhead (faced back heights) i e o) 0 (s + 1)
 
 abbrev μ-objects : tie.MeasureT-objects
-μ-objects heights i e o far left limit s₀ s = limit - s
+μ-objects heights back i e o far left limit s₀ s = limit - s
 
 -- the limit is the lesser of the farthest distance and the stations left
 limit-is : (c : tie.At-objects Inv-loop μ-loop Inv-objects μ-objects) →
     let s = c .before .before .args in c .before .if1 .limit ≡ min (s .far) (length (s .heights .now) - 1 - s .i)
 limit-is c = ⊎-elim (λ w. omega arith) (λ w. omega arith) (c .before .if1 .came)
 
+-- the driver meets as many stations
+limit-met : (c : tie.At-objects Inv-loop μ-loop Inv-objects μ-objects) →
+    let s = c .before .before .args in c .before .if1 .limit ≡ min (s .far) (length (faced (s .back) (s .heights .now)) - 1 - s .i)
+limit-met c = let s = c .before .before .args in rw (faced-length (s .back) (s .heights .now)) (limit-is c)
+
 -- at a station between
 abbrev head : tie.At-loop Inv-loop μ-loop Inv-objects μ-objects → tie.At-objects Inv-loop μ-loop Inv-objects μ-objects
 head c = c .before .before
 
 abbrev PassesAt : tie.At-loop Inv-loop μ-loop Inv-objects μ-objects → Type 0
-PassesAt c = let s = head c .before .before .args in Passes (s .heights .now) (s .i) (s .e) (s .o) (head c .objects .s + 1) (c .loop .k)
+PassesAt c =
+    let s = head c .before .before .args in
+    Passes (faced (s .back) (s .heights .now)) (s .i) (s .e) (s .o) (head c .objects .s + 1) (c .loop .k)
 
 -- what the flag that `clears` answers tells of it
 module _ (c : tie.After-clears Inv-loop μ-loop Inv-objects μ-objects) where
@@ -104,13 +114,13 @@ objects-again c =
 
 returns : tie.Need-returns Inv-loop μ-loop Inv-objects μ-objects
 returns c =
-    let l = c .before .objects .inv in let q = limit-is (c .before) in
+    let l = c .before .objects .inv in let q = limit-met (c .before) in
     sight-by _ _ _ _ _ record { within = omega arith; all = λ t m r. l .1 t m (omega arith); stop = λ m p. omega arith }
 
 returns-2 : tie.Need-returns-2 Inv-loop μ-loop Inv-objects μ-objects
 unfolding seen
 returns-2 c =
-    let l = c .before .before .before in let h = head l in let q = limit-is h in
+    let l = c .before .before .before in let h = head l in let q = limit-met h in
     sight-by _ _ _ _ _ record {
       within = omega arith;
       all = λ t m r. h .objects .inv .1 t m (omega arith);

@@ -7,30 +7,30 @@ use borrow.Author.Needs.{needs}
 use lib.ListN.{length}
 use Rattle.whole.specs.Fill.{filled}
 use Rattle.whole.proofs.Fill.{filled-none, filled-next, filled-to}
-use Rattle.sight.specs.Sight.{availableSight}
-use Rattle.sight.proofs.Reach.{sight-le-far}
+use Rattle.sight.specs.Operations.{sightToward}
+use Rattle.sight.proofs.Toward.{toward-le-far}
 use Rattle.slow_sight.proofs.fill_sights.Statement.{statement}
 use Rattle.slow_sight.proofs.fill_sights.Tie as tie
 
 abbrev Inv-loop : tie.InvT-loop
-Inv-loop heights e o far sights₀ i₀ i-end sights i =
+Inv-loop heights back e o far sights₀ i₀ i-end sights i =
     (i ≤ length heights) × (i-end ≡ length heights) × (length sights ≡ length sights₀)
-    × (sights ≡ filled (λ k. availableSight heights k e o far) 0 i sights₀)
+    × (sights ≡ filled (λ k. sightToward heights back k e o far) 0 i sights₀)
 
 abbrev μ-loop : tie.MeasureT-loop
-μ-loop heights e o far sights₀ i₀ i-end sights i = length heights - i
+μ-loop heights back e o far sights₀ i₀ i-end sights i = length heights - i
 
 loop-holds : tie.Need-loop-holds Inv-loop μ-loop
 loop-holds c = (omega arith, refl, refl, filled-none _ _ _)
 
-available-sight-requires : tie.Need-available-sight-requires Inv-loop μ-loop
-available-sight-requires c κs = search needs
+sight-toward-requires : tie.Need-sight-toward-requires Inv-loop μ-loop
+sight-toward-requires c κs = search needs
 
 cast-sights : tie.Need-cast-sights Inv-loop μ-loop
 cast-sights c =
     let walk = c .before .before in let s = walk .before .before .args in
-    let le = sight-le-far (s .heights .now) (walk .loop .i) (s .e) (s .o) (s .far) in
-    record { fits = omega (arith, c .available-sight .ensures) }
+    let le = toward-le-far (s .heights .now) (s .back) (walk .loop .i) (s .e) (s .o) (s .far) in
+    record { fits = omega (arith, c .sight-toward .ensures) }
 
 mul-sights : tie.Need-mul-sights Inv-loop μ-loop
 mul-sights c = search needs
@@ -47,8 +47,8 @@ loop-less c = search needs
 loop-again : tie.Need-loop-again Inv-loop μ-loop
 loop-again c =
     let walk = c .before .before in let s = walk .before .before .args in
-    let sights : ℕ → ℕ = λ k. availableSight (s .heights .now) k (s .e) (s .o) (s .far) in
-    (omega arith, search needs, search needs, filled-next sights _ _ _ _ (walk .loop .inv .3) (c .available-sight .ensures))
+    let sights : ℕ → ℕ = λ k. sightToward (s .heights .now) (s .back) k (s .e) (s .o) (s .far) in
+    (omega arith, search needs, search needs, filled-next sights _ _ _ _ (walk .loop .inv .3) (c .sight-toward .ensures))
 
 same-length : tie.Need-same-length Inv-loop μ-loop
 same-length c = search needs
@@ -63,7 +63,7 @@ fill-sights-spec =
     Inv-loop
     μ-loop
     loop-holds
-    available-sight-requires
+    sight-toward-requires
     cast-sights
     mul-sights
     slice-write-sights

@@ -8,8 +8,7 @@ use Rattle.terms.specs.declared.Verdict.the-variants.{Accepted}
 use Rattle.terms.proofs.Laws.{ends-fault, ends-no-room, ends-filled}
 use Rattle.verdicts.specs.Verdicts.{profileVerdict}
 use Rattle.verdicts.proofs.Laws.{profile-in-range}
-use Rattle.sight.specs.Sight.{availableSight}
-use Rattle.sight.specs.Operations.{profileAnswer, profileList}
+use Rattle.sight.specs.Operations.{sightToward, profileAnswer, profileList}
 use Rattle.slow_sight.proofs.profile.Statement.{statement}
 use Rattle.slow_sight.proofs.profile.Tie as tie
 
@@ -41,8 +40,8 @@ returns-2 c =
 fill-sights-requires : tie.Need-fill-sights-requires
 fill-sights-requires c κs = (omega arith, profile-in-range _ _ _ _ (accepted (c .before .before)) .1 .farthest .1)
 
-cast-t15 : tie.Need-cast-t15
-cast-t15 c =
+cast-t16 : tie.Need-cast-t16
+cast-t16 c =
     let room = c .before .before .before .before in
     record { fits = omega (arith, profile-in-range _ _ _ _ (accepted (room .before)) .0) }
 
@@ -53,7 +52,7 @@ returns-3 : tie.Need-returns-3
 unfolding profileAnswer profileList
 returns-3 c =
     let room = c .before .before .before .before in let s = room .before .before .before .before .before .args in
-    ends-filled (λ i. availableSight (s .heights .now) i (s .eye) (s .object) (s .farthest)) _ _ _ _
+    ends-filled (λ i. sightToward (s .heights .now) (s .back) i (s .eye) (s .object) (s .farthest)) _ _ _ _
     (accepted (room .before)) (room .if1 .left) (c .before .before .fill-sights .ensures)
 
 pub profile-spec : {M : Type 1} → statement M
@@ -66,6 +65,6 @@ profile-spec =
     enum-told
     returns-2
     fill-sights-requires
-    cast-t15
+    cast-t16
     same-length
     returns-3)

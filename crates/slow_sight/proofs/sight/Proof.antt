@@ -1,4 +1,4 @@
--- `sight` meets its contract: refused by its verdict, else the available sight, which is at most the farthest distance.
+-- `sight` meets its contract: refused by its verdict, else the sight in the direction, which is at most the farthest distance.
 use mathlib.Core.Path.{_≡_, refl, ap, sym, _∙_}
 use borrow.Author.Needs.{needs}
 use native.Mathlib.Omega.{arith}
@@ -8,7 +8,7 @@ use Rattle.terms.specs.declared.Verdict.the-variants.{Accepted}
 use Rattle.verdicts.specs.Verdicts.{sightVerdict}
 use Rattle.verdicts.proofs.Laws.{sight-in-range}
 use Rattle.sight.specs.Operations.{sightAnswer}
-use Rattle.sight.proofs.Reach.{sight-le-far}
+use Rattle.sight.proofs.Toward.{toward-le-far}
 use Rattle.slow_sight.proofs.sight.Statement.{statement}
 use Rattle.slow_sight.proofs.sight.Tie as tie
 
@@ -31,18 +31,18 @@ returns c = rw (sym (c .before .before .before .sight-verdict .ensures) ∙ c .b
 enum-told : tie.Need-enum-told
 enum-told c = search needs
 
-available-sight-requires : tie.Need-available-sight-requires
-available-sight-requires c κs = let inside = sight-in-range _ _ _ _ _ (accepted c) in (inside .0, inside .2 .farthest .1)
+sight-toward-requires : tie.Need-sight-toward-requires
+sight-toward-requires c κs = let inside = sight-in-range _ _ _ _ _ (accepted c) in (inside .0, inside .2 .farthest .1)
 
-cast-t11 : tie.Need-cast-t11
-cast-t11 c =
+cast-t12 : tie.Need-cast-t12
+cast-t12 c =
     let s = c .before .before .before .before .args in
-    let le = sight-le-far (s .heights .now) (s .station) (s .eye) (s .object) (s .farthest) in
-    record { fits = omega (arith, c .available-sight .ensures) }
+    let le = toward-le-far (s .heights .now) (s .back) (s .station) (s .eye) (s .object) (s .farthest) in
+    record { fits = omega (arith, c .sight-toward .ensures) }
 
 returns-2 : tie.Need-returns-2
 unfolding sightAnswer
-returns-2 c = rw (accepted (c .before)) (ap Number (c .available-sight .ensures))
+returns-2 c = rw (accepted (c .before)) (ap Number (c .sight-toward .ensures))
 
 pub sight-spec : {M : Type 1} → statement M
 sight-spec =
@@ -52,6 +52,6 @@ sight-spec =
     enum-known-verdict
     returns
     enum-told
-    available-sight-requires
-    cast-t11
+    sight-toward-requires
+    cast-t12
     returns-2)
