@@ -15,6 +15,7 @@ use Rattle.road.specs.declared.Road.{Road}
 use Rattle.road.proofs.Accepted.{accepted-road}
 use Rattle.heights.specs.Heights.{heightsList}
 use Rattle.heights.proofs.Filled.{heights-length}
+use Rattle.directions.specs.Directions.{forward}
 use Rattle.sight.specs.Sight.{availableSight}
 use Rattle.marks.specs.Marks.{judged, lackingAt}
 use Rattle.passing.specs.Passing.{passingMark}
@@ -28,8 +29,8 @@ module _ (r : Road) (own : List ℤ) (R i : ℕ) (stations : length own ≡ r .l
   abbrev seen : ℕ
   seen = availableSight own i eyeHeight passingObjectHeight R
 
-  says : exactSight r i (eyeHeight - 1) (passingObjectHeight - 1) R ≤ seen →
-      seen ≤ exactSight r i (eyeHeight + 1) (passingObjectHeight + 1) R → Says r R i (passingMark own R i)
+  says : exactSight r forward i (eyeHeight - 1) (passingObjectHeight - 1) R ≤ seen →
+      seen ≤ exactSight r forward i (eyeHeight + 1) (passingObjectHeight + 1) R → Says r R i (passingMark own R i)
   unfolding passingMark
   says low high = go (judged own R i) (lackingAt eyeHeight passingObjectHeight own R i) refl refl
     where
@@ -47,7 +48,7 @@ passing-accuracy r list sights marks i R ok size room place on low high =
     let own = heightsList r list in
     let stations : length own ≡ r .length + 1 = omega (arith, heights-length r list) in
     let short : r .length ≤ greatestLongRoad = accepted-road r ok .length-high in
-    let accurate = accuracy r list sights i eyeHeight passingObjectHeight R ok size room on
+    let accurate = accuracy r list sights forward i eyeHeight passingObjectHeight R ok size room on
     (omega arith) (omega arith) (omega arith) (omega arith) low high in
     let right = says r own R i stations (rw (accurate .available) at (accurate .at-least)) (rw (accurate .available) at (accurate .at-most)) in
     record {

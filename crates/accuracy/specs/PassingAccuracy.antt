@@ -12,6 +12,7 @@ use Rattle.terms.specs.declared.Verdict.the-variants.{Accepted}
 use Rattle.road.specs.declared.Road.{Road}
 use Rattle.road.specs.Road.{roadVerdict}
 use Rattle.heights.specs.Heights.{heightsList}
+use Rattle.directions.specs.Directions.{forward}
 use Rattle.passing.specs.Passing.{passingAnswer, passingList}
 use Rattle.exact.specs.ExactSight.{exactSight}
 use Rattle.accuracy.specs.Accuracy.{Accurate}
@@ -20,16 +21,16 @@ use Rattle.accuracy.specs.Accuracy.{Accurate}
 abbrev pub Says : Road → ℕ → ℕ → ℕ → Type 0
 Says r R i mark =
     -- none: passing is judged, and with eye and object one h-unit higher sight is not below R
-    ((mark ≡ 0) × (i + R ≤ r .length) × (R ≤ exactSight r i (eyeHeight + 1) (passingObjectHeight + 1) R))
+    ((mark ≡ 0) × (i + R ≤ r .length) × (R ≤ exactSight r forward i (eyeHeight + 1) (passingObjectHeight + 1) R))
     -- bit 5: passing is judged, and with eye and object one h-unit lower sight is below R
-    ⊎ ((mark ≡ 2 ^ 5) × (i + R ≤ r .length) × (exactSight r i (eyeHeight - 1) (passingObjectHeight - 1) R < R))
+    ⊎ ((mark ≡ 2 ^ 5) × (i + R ≤ r .length) × (exactSight r forward i (eyeHeight - 1) (passingObjectHeight - 1) R < R))
     -- bit 6: the road ends before R does
     ⊎ ((mark ≡ 2 ^ 6) × (r .length < i + R))
 
 -- what holds of a road, the lists lent for its heights, its sights and its passing marks, a station and a passing distance
 pub record AccuratePassing (r : Road) (list : List ℤ) (sights marks : List ℕ) (i R : ℕ) : Type 0 where
   -- the accuracy rule at these heights, up to the passing distance
-  pub rule : Accurate r list sights i eyeHeight passingObjectHeight R
+  pub rule : Accurate r list sights forward i eyeHeight passingObjectHeight R
   -- Passing marks, over the road's heights, marks stations 0 to N
   pub answer : passingAnswer (heightsList r list) R marks ≡ Number (r .length + 1)
   -- and the station's mark is right to one h-unit

@@ -1,8 +1,9 @@
 -- docs/RULES.md, "What can be seen": the sight distance on the exact parabolas and straights. It is the available sight by the
 -- same definition, with the exact heights of all stations 0 to N, as fractions, in place of the stored ones.
-use Prim.Native.Nat.{ℕ, _-_}
+use Prim.Native.Nat.{ℕ, _+_, _-_}
 use mathlib.Core.Bool.{Bool}
 use Rattle.whole.specs.Fractions.{Frac, raised, _+F_, _*F_, leF}
+use Rattle.directions.specs.Directions.{counted}
 use Rattle.road.specs.declared.Road.{Road}
 use Rattle.heights.specs.Profile.{exactHeight}
 use Rattle.sight.specs.Sight.{everyBetween, sightFrom}
@@ -19,6 +20,7 @@ seenExactly h e o i j = everyBetween i j (clearsExactly h e o i j)
 unfoldable pub exactSightOver : (ℕ → Frac) → ℕ → ℕ → ℕ → ℕ → ℕ → ℕ
 exactSightOver h last i e o far = sightFrom i last far (seenExactly h e o i)
 
--- the sight on the exact profile of a road; the last station is N
-unfoldable pub exactSight : Road → ℕ → ℕ → ℕ → ℕ → ℕ
-exactSight r i e o far = exactSightOver (exactHeight r) (r .length) i e o far
+-- the sight on the exact profile of a road in a direction, the N + 1 stations being counted as the driver meets them
+unfoldable pub exactSight : Road → Bool → ℕ → ℕ → ℕ → ℕ → ℕ
+exactSight r back i e o far =
+    let met = counted back (r .length + 1) in exactSightOver (λ k. exactHeight r (met k)) (r .length) (met i) e o far
