@@ -2,15 +2,16 @@
 ghost use mathlib.Core.Path.{_≡_};
 ghost use lib.ListN.{length};
 ghost use Rattle.road.specs.Road.{curvesOf};
-ghost use Rattle.road_distances.specs.RoadDistances.{lesser, roadGrade, roadDistances};
+ghost use Rattle.road_distances.specs.RoadDistances.{steeper, roadGrade, roadDistances};
 use distance::Distances;
 use road::Road;
 
-// The lesser of two grades.
-fn lesser(a: i32, b: i32) -> i32
-    ensures { λ r. ⌜ r ≡ lesser a b ⌝ }
+// The lesser of two grades, and towards falling stations the greater.
+fn steeper(back: bool, a: i32, b: i32) -> i32
+    ensures { λ r. ⌜ r ≡ steeper back a b ⌝ }
 {
-    if a < b {
+    let first = if back { b < a } else { a < b };
+    if first {
         return a;
     }
     b
@@ -27,24 +28,25 @@ fn in_use(road: Road) -> usize
     road::CURVE_PLACES
 }
 
-// The least of a road's grades, the first one included, or 0 if none is negative.
-pub fn road_grade(road: Road) -> i32
-    ensures { λ r. ⌜ r ≡ roadGrade road ⌝ }
+// The least of a road's grades, the first one included, or 0 if none is negative; towards falling stations the greatest, or 0 if none
+// is positive.
+pub fn road_grade(road: Road, back: bool) -> i32
+    ensures { λ r. ⌜ r ≡ roadGrade road back ⌝ }
 {
     let mut i = in_use(road);
-    let mut least: i32 = 0;
+    let mut steepest: i32 = 0;
     while 0 < i {
         i -= 1;
         let c = road.curves[i];
-        least = lesser(c.grade_out as i32, least);
+        steepest = steeper(back, c.grade_out as i32, steepest);
     }
-    lesser(road.first_grade as i32, least)
+    steeper(back, road.first_grade as i32, steepest)
 }
 
 // What a road needs on that grade to stop and to decide, at its own speed and for its own purpose.
-pub fn road_distances(road: Road) -> Distances
-    ensures { λ r. ⌜ r ≡ roadDistances road ⌝ }
+pub fn road_distances(road: Road, back: bool) -> Distances
+    ensures { λ r. ⌜ r ≡ roadDistances road back ⌝ }
 {
-    let grade = road_grade(road);
+    let grade = directions::driven_grade(back, road_grade(road, back));
     distance::distances_for(road.speed as u32, road.purpose as u32, grade)
 }
