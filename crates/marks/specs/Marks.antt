@@ -11,6 +11,7 @@ use Rattle.terms.specs.declared.Answer.{Answer}
 use Rattle.verdicts.specs.Verdicts.{marksVerdict}
 use Rattle.distance.specs.declared.Distances.{Distances}
 use Rattle.distance.specs.Distance.{distancesFor}
+use Rattle.directions.specs.Directions.{faced, counted, drivenGrade}
 use Rattle.sight.specs.Sight.{availableSight}
 
 -- station i is judged for a required distance R: i + R is at most the last station
@@ -45,9 +46,13 @@ markOf heights d i =
     (not stoppingJudged)
     (not decisionJudged)
 
--- the mark of station i for a speed, a purpose and a grade
-abbrev pub markFor : ℕ → ℕ → ℤ → List ℤ → ℕ → ℕ
-markFor speed purpose grade heights i = markOf heights (distancesFor speed purpose grade) i
+-- the mark of station i in a direction: of the heights as the driver meets them, at the place where the station then is
+unfoldable pub markToward : List ℤ → Bool → Distances → ℕ → ℕ
+markToward heights back d i = markOf (faced back heights) d (counted back (length heights) i)
+
+-- the mark of station i for a speed, a purpose and a grade, which is handed over as for rising stations
+abbrev pub markFor : ℕ → ℕ → ℤ → List ℤ → Bool → ℕ → ℕ
+markFor speed purpose grade heights back i = markToward heights back (distancesFor speed purpose (drivenGrade back grade)) i
 
 -- marks from a speed, a decision purpose, a grade and heights: refused 6, 7, 10, 19, then 14; else how many bytes are written
 unfoldable pub marksAnswer : ℕ → ℕ → ℤ → List ℤ → List ℕ → Answer
@@ -55,6 +60,6 @@ marksAnswer speed purpose grade heights marks =
     let n = length heights in unless (marksVerdict speed purpose grade n) (roomFor n marks)
 
 -- each station's byte is its mark, bytes beyond stay; where it is refused all stay
-unfoldable pub marksList : ℕ → ℕ → ℤ → List ℤ → List ℕ → List ℕ
-marksList speed purpose grade heights marks =
-    written (markFor speed purpose grade heights) (marksAnswer speed purpose grade heights marks) marks
+unfoldable pub marksList : ℕ → ℕ → ℤ → List ℤ → Bool → List ℕ → List ℕ
+marksList speed purpose grade heights back marks =
+    written (markFor speed purpose grade heights back) (marksAnswer speed purpose grade heights marks) marks

@@ -4,7 +4,7 @@ ghost use Prim.Native.Nat.{_+_, _<_, _≤_};
 ghost use lib.ListN.{length};
 ghost use Rattle.whole.specs.Fill.{filled};
 ghost use Rattle.marks.specs.Markable.{Markable};
-ghost use Rattle.marks.specs.Marks.{marked, markOf, marksAnswer, marksList};
+ghost use Rattle.marks.specs.Marks.{marked, markToward, marksAnswer, marksList};
 use distance::Distances;
 use terms::Answer;
 use terms::Verdict;
@@ -26,17 +26,18 @@ fn compose(
         | (decision_unjudged as u8) << 4
 }
 
-// The mark of station `i`. One search, up to the larger distance, serves both; a station that is judged for neither needs
+// The mark of station `i` in a direction. One search, up to the larger distance, serves both; a station that is judged for neither needs
 // none.
-fn mark_of(heights: &[i32], d: Distances, i: usize) -> u8
+fn mark_of(heights: &[i32], back: bool, d: Distances, i: usize) -> u8
     requires { ⌜ Markable (now heights) d × (i < length (now heights)) ⌝ }
-    ensures { λ r. ⌜ r ≡ markOf (now (heights .entry)) d i ⌝ }
+    ensures { λ r. ⌜ r ≡ markToward (now (heights .entry)) back d i ⌝ }
 {
     let stopping = d.stopping;
     let decision = d.decision;
     let last = heights.len() - 1;
-    let stopping_judged = i + stopping as usize <= last;
-    let decision_judged = i + decision as usize <= last;
+    let place = directions::counted(back, heights.len(), i);
+    let stopping_judged = place + stopping as usize <= last;
+    let decision_judged = place + decision as usize <= last;
     let larger = if stopping < decision {
         decision
     } else {
@@ -45,6 +46,7 @@ fn mark_of(heights: &[i32], d: Distances, i: usize) -> u8
     let s = if stopping_judged | decision_judged {
         terms::value_or_zero(sight::sight(
             heights,
+            back,
             i as u32,
             terms::EYE_HEIGHT,
             terms::OBJECT_HEIGHT,
@@ -65,22 +67,36 @@ fn mark_of(heights: &[i32], d: Distances, i: usize) -> u8
     )
 }
 
-// The marks of `count` stations from `first` on, each into the place of its station, from the last one back.
-fn fill_marks(heights: &[i32], d: Distances, first: usize, count: usize, list: &mut [u8])
+// The marks of `count` stations from `first` on in a direction, each into the place of its station, from the last one back.
+fn fill_marks(
+    heights: &[i32],
+    back: bool,
+    d: Distances,
+    first: usize,
+    count: usize,
+    list: &mut [u8],
+)
     requires { ⌜ Markable (now heights) d × (first + count ≤ length (now heights)) × (length (now heights) ≤ length (now list)) ⌝ }
-    ensures { λ _. ⌜ now (list .exit) ≡ filled (markOf (now (heights .entry)) d) first count (now (list .entry)) ⌝ }
+    ensures { λ _. ⌜ now (list .exit) ≡ filled (markToward (now (heights .entry)) back d) first count (now (list .entry)) ⌝ }
 {
     let mut i = first + count;
     while i > first {
         i -= 1;
-        list[i] = mark_of(heights, d, i);
+        list[i] = mark_of(heights, back, d, i);
     }
 }
 
-// Marks, from a speed, a decision purpose, a grade and heights.
-pub fn marks(speed: u32, purpose: u32, grade: i32, heights: &[i32], list: &mut [u8]) -> Answer
+// Marks, from a speed, a decision purpose, a grade, which is that for rising stations, and heights, in a direction.
+pub fn marks(
+    speed: u32,
+    purpose: u32,
+    grade: i32,
+    heights: &[i32],
+    back: bool,
+    list: &mut [u8],
+) -> Answer
     ensures answer { λ r. ⌜ r ≡ marksAnswer speed purpose grade (now (heights .entry)) (now (list .entry)) ⌝ }
-    ensures list { λ _. ⌜ now (list .exit) ≡ marksList speed purpose grade (now (heights .entry)) (now (list .entry)) ⌝ }
+    ensures list { λ _. ⌜ now (list .exit) ≡ marksList speed purpose grade (now (heights .entry)) back (now (list .entry)) ⌝ }
 {
     let stations = heights.len();
     if let Verdict::Fault(number) = verdicts::marks_verdict(speed, purpose, grade, stations) {
@@ -89,7 +105,8 @@ pub fn marks(speed: u32, purpose: u32, grade: i32, heights: &[i32], list: &mut [
     if list.len() < stations {
         return Answer::Refused(terms::ROOM_REFUSED);
     }
-    let needed = distance::distances_for(speed, purpose, grade);
-    fill_marks(heights, needed, 0, stations, list);
+    let driven = directions::driven_grade(back, grade);
+    let needed = distance::distances_for(speed, purpose, driven);
+    fill_marks(heights, back, needed, 0, stations, list);
     Answer::Number(stations as u32)
 }

@@ -18,6 +18,7 @@ fn passing_mark(heights: &[i32], distance: u32, i: usize) -> u8
     let s = if judged {
         terms::value_or_zero(sight::sight(
             heights,
+            directions::FORWARD,
             i as u32,
             terms::EYE_HEIGHT,
             terms::PASSING_OBJECT_HEIGHT,

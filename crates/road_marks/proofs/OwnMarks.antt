@@ -1,5 +1,6 @@
 -- The marks of an accepted road's own heights are the road's: they are not refused, for its numbers are in their ranges.
 use mathlib.Core.Path.{_≡_}
+use mathlib.Core.Bool.{Bool}
 use mathlib.Core.List.{List}
 use Prim.Native.Nat.{ℕ, _+_}
 use native.Mathlib.Omega.{arith}
@@ -16,22 +17,22 @@ use Rattle.heights.proofs.Filled.{own-length}
 use Rattle.marks.specs.Marks.{marksAnswer, marksList}
 use Rattle.road_marks.specs.RoadMarks.{roadMark}
 
-module _ (r : Road) (accepted : roadVerdict r ≡ Accepted) where
-  in-range : MarksInRange (r .speed) (r .purpose) (roadGrade r) (r .length + 1)
+module _ (r : Road) (back : Bool) (accepted : roadVerdict r ≡ Accepted) where
+  in-range : MarksInRange (r .speed) (r .purpose) (roadGrade r back) (r .length + 1)
   in-range =
       let s = accepted-road r accepted in
       record {
         speed-in = (s .speed-low, s .speed-high);
         purpose-in = (s .purpose-low, s .purpose-high);
-        grade-in = road-grade-in r accepted;
+        grade-in = road-grade-in r back accepted;
         stations = omega (arith, s .length-high);
       }
 
   module _ (marks : List ℕ) where
-    pub own-answer : marksAnswer (r .speed) (r .purpose) (roadGrade r) (ownHeights r) marks ≡ roomFor (r .length + 1) marks
+    pub own-answer : marksAnswer (r .speed) (r .purpose) (roadGrade r back) (ownHeights r) marks ≡ roomFor (r .length + 1) marks
     unfolding marksAnswer
-    own-answer = rw (own-length r, marks-accepted (r .speed) (r .purpose) (roadGrade r) (r .length + 1) in-range)
+    own-answer = rw (own-length r, marks-accepted (r .speed) (r .purpose) (roadGrade r back) (r .length + 1) in-range)
 
-    pub own-list : marksList (r .speed) (r .purpose) (roadGrade r) (ownHeights r) marks ≡ written (roadMark r) (roomFor (r .length + 1) marks) marks
+    pub own-list : marksList (r .speed) (r .purpose) (roadGrade r back) (ownHeights r) back marks ≡ written (roadMark r back) (roomFor (r .length + 1) marks) marks
     unfolding marksList roadDistances
     own-list = rw own-answer

@@ -7,16 +7,16 @@ use borrow.Author.Needs.{needs}
 use lib.ListN.{length}
 use Rattle.whole.specs.Fill.{filled}
 use Rattle.whole.proofs.Fill.{filled-none, filled-front, filled-to}
-use Rattle.marks.specs.Marks.{markOf}
+use Rattle.marks.specs.Marks.{markToward}
 use Rattle.marks.proofs.fill_marks.Statement.{statement}
 use Rattle.marks.proofs.fill_marks.Tie as tie
 
 abbrev Inv-loop : tie.InvT-loop
-Inv-loop heights d first count list₀ i₀ list i =
-    (first ≤ i) × (i ≤ first + count) × (length list ≡ length list₀) × (list ≡ filled (markOf heights d) i (first + count - i) list₀)
+Inv-loop heights back d first count list₀ i₀ list i =
+    (first ≤ i) × (i ≤ first + count) × (length list ≡ length list₀) × (list ≡ filled (markToward heights back d) i (first + count - i) list₀)
 
 abbrev μ-loop : tie.MeasureT-loop
-μ-loop heights d first count list₀ i₀ list i = i
+μ-loop heights back d first count list₀ i₀ list i = i
 
 add-i : tie.Need-add-i Inv-loop μ-loop
 add-i c = search needs

@@ -8,7 +8,9 @@ use borrow.Author.Needs.{needs}
 use lib.Dec.{T}
 use Rattle.terms.specs.Answers.{valueOrZero}
 use Rattle.terms.specs.Limits.{eyeHeight, passingObjectHeight}
+use Rattle.directions.specs.Directions.{forward}
 use Rattle.sight.specs.Sight.{availableSight}
+use Rattle.sight.proofs.Toward.{toward-forward}
 use Rattle.marks.specs.Marks.{judged}
 use Rattle.marks.proofs.Mark.{sight-value}
 use Rattle.passing.proofs.Laws.{passing-by-sight}
@@ -48,7 +50,8 @@ module _ (c : tie.Joined1) where
   searched t =
       ⊎-elim
       (λ w. w .3 ∙ w .2 .ensures ∙ ap valueOrZero (w .1 .ensures)
-      ∙ sight-value _ _ _ _ _ (a .pre .2) (a .pre .0) (omega arith) (omega arith) (a .pre .1))
+      ∙ sight-value _ _ _ _ forward _ (a .pre .2) (a .pre .0) (omega arith) (omega arith) (a .pre .1)
+      ∙ toward-forward _ _ _ _ _)
       (λ w. absurd (subst T (w .0 .left) t))
       (c .if1 .came)
 

@@ -18,7 +18,7 @@ enum-known-verdict c = search needs
 returns : tie.Need-returns
 returns c =
     let read = c .before .before .before in
-    file-refused _ _ _ (sym (verdict-read _ _ _ (read .read .ensures)) ∙ c .before .verdict .given .1)
+    file-refused _ _ _ _ (sym (verdict-read _ _ _ (read .read .ensures)) ∙ c .before .verdict .given .1)
 
 enum-told : tie.Need-enum-told
 enum-told c = search needs
@@ -39,9 +39,9 @@ returns-2 c =
     let read = t .before .before .read .ensures in
     let accepted = sym (verdict-read (a .most) _ _ read) ∙ t .enum-told .given .1 in
     let road = road-read (a .most) _ _ read accepted in
-    let ends = file-marked (a .most) _ list accepted in (
+    let ends = file-marked (a .most) _ (a .back) list accepted in (
       m .mark-up-to .ensures .0 ∙ ap (λ (r : Road). markRoadAnswer (a .most) r list) road ∙ ends .0,
-      m .mark-up-to .ensures .1 ∙ ap (λ (r : Road). markRoadList (a .most) r list) road ∙ ends .1,
+      m .mark-up-to .ensures .1 ∙ ap (λ (r : Road). markRoadList (a .most) r (a .back) list) road ∙ ends .1,
     )
 
 pub mark-file-up-to-spec : {M : Type 1} → statement M

@@ -30,7 +30,7 @@ enum-known-number : tie.Need-enum-known-number
 enum-known-number c = search needs
 
 returns : tie.Need-returns
-returns c = let v = c .before .before .before in road-refused _ _ _ (sym (v .verdict .ensures) ∙ c .before .number .given .1)
+returns c = let v = c .before .before .before in road-refused _ _ _ _ (sym (v .verdict .ensures) ∙ c .before .number .given .1)
 
 enum-told : tie.Need-enum-told
 enum-told c = search needs
@@ -100,9 +100,9 @@ returns-2 : tie.Need-returns-2
 returns-2 c =
     let m = c .before .before in let h = m .before .before .before .before .before .before .before in
     let s = start h in let r = s .args .road in let list = s .args .list .now in
-    let ends = road-marked (s .args .most) r list (taken (told h)) in let graded = h .before .before .road-grade in let grade = got w32 _ (graded .ok) ∙ graded .ensures in (
-      m .marks .ensures .0 ∙ ap₂ (λ (x : ℤ) (hs : List ℤ). marksAnswer (r .speed) (r .purpose) x hs list) grade (front h) ∙ own-answer r (accepted (told h)) list ∙ ends .0,
-      m .marks .ensures .1 ∙ ap₂ (λ (x : ℤ) (hs : List ℤ). marksList (r .speed) (r .purpose) x hs list) grade (front h) ∙ own-list r (accepted (told h)) list ∙ ends .1,
+    let ends = road-marked (s .args .most) r (s .args .back) list (taken (told h)) in let graded = h .before .before .road-grade in let grade = got w32 _ (graded .ok) ∙ graded .ensures in (
+      m .marks .ensures .0 ∙ ap₂ (λ (x : ℤ) (hs : List ℤ). marksAnswer (r .speed) (r .purpose) x hs list) grade (front h) ∙ own-answer r (s .args .back) (accepted (told h)) list ∙ ends .0,
+      m .marks .ensures .1 ∙ ap₂ (λ (x : ℤ) (hs : List ℤ). marksList (r .speed) (r .purpose) x hs (s .args .back) list) grade (front h) ∙ own-list r (s .args .back) (accepted (told h)) list ∙ ends .1,
     )
 
 pub mark-up-to-spec : {M : Type 1} → statement M
