@@ -14,6 +14,7 @@ use Rattle.terms.specs.declared.Verdict.the-variants.{Accepted}
 use Rattle.terms.proofs.Laws.{not-outside, written-length, ends-front}
 use Rattle.road.specs.declared.Road.{Road}
 use Rattle.road.specs.Road.{shortRoadVerdict}
+use Rattle.directions.specs.Directions.{forward}
 use Rattle.road_marks.specs.RoadMarks.{roadMark, markRoadAnswer, markRoadList}
 use Rattle.zones.specs.Zones.{zoneEnds, zoneCount, zonesAnswer, zonesList}
 use Rattle.zones.proofs.Laws.{zones-at-most, zones-by-room}
@@ -46,9 +47,9 @@ zones-lines marks list ends b count bit some short places e p =
     )
 
 -- ---- marks: the first N + 1 places of a list with room for them
-pub own-marks-front : (r : Road) (list out : List ℕ) → out ≡ markRoadList greatestShortRoad r list → shortRoadVerdict r ≡ Accepted → r .length + 1 ≤ length out →
+pub own-marks-front : (r : Road) (list out : List ℕ) → out ≡ markRoadList greatestShortRoad r forward list → shortRoadVerdict r ≡ Accepted → r .length + 1 ≤ length out →
     take (r .length + 1) out ≡ ownMarks r
 unfolding ownMarks markRoadList markRoadAnswer
 own-marks-front r list out p e l =
-    let same = ap length p ∙ written-length (roadMark r) (markRoadAnswer greatestShortRoad r list) list in
-    rw p (ends-front (roadMark r) (shortRoadVerdict r) (r .length + 1) list 0 e (omega arith))
+    let same = ap length p ∙ written-length (roadMark r forward) (markRoadAnswer greatestShortRoad r list) list in
+    rw p (ends-front (roadMark r forward) (shortRoadVerdict r) (r .length + 1) list 0 e (omega arith))

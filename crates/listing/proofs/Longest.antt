@@ -17,6 +17,7 @@ use Rattle.distance.specs.declared.Distances.{Distances}
 use Rattle.road.specs.declared.Road.{Road}
 use Rattle.road.specs.Road.{shortRoadVerdict}
 use Rattle.road.proofs.Accepted.{accepted-road}
+use Rattle.directions.specs.Directions.{forward}
 use Rattle.road_distances.specs.RoadDistances.{roadDistances}
 use Rattle.road_distances.proofs.Laws.{road-distances-at-most}
 use Rattle.file.specs.File.{letters, roadIn}
@@ -93,7 +94,7 @@ bit-at-most marks h b =
 own-marks-length : (r : Road) → length (ownMarks r) ≡ r .length + 1
 unfolding ownMarks markRoadList
 own-marks-length r =
-    written-length (roadMark r) (markRoadAnswer greatestShortRoad r (replicate (r .length + 1) 0)) (replicate (r .length + 1) 0)
+    written-length (roadMark r forward) (markRoadAnswer greatestShortRoad r (replicate (r .length + 1) 0)) (replicate (r .length + 1) 0)
     ∙ length-replicate {A = ℕ} (r .length + 1) 0
 
 road-at-most : (r : Road) → shortRoadVerdict r ≡ Accepted → length (roadText r) ≤ greatestListing
@@ -101,9 +102,9 @@ unfolding roadText
 road-at-most r accepted =
     let stations : length (ownMarks r) ≤ greatestShortRoad + 1 = omega (arith, own-marks-length r, accepted-road r accepted .length-high) in
     let zones = joined-at-most (bitLines (ownMarks r)) (14 * mostZones) (length bitLetters) (bit-at-most (ownMarks r) stations) in
-    let small = road-distances-at-most r in
+    let small = road-distances-at-most r forward in
     let road = accepted-road r accepted in
-    let first = first-at-most (r .version) (r .speed) (roadDistances r) (omega (arith, road .version-high)) (omega (arith, road .speed-high)) (omega arith) in
+    let first = first-at-most (r .version) (r .speed) (roadDistances r forward) (omega (arith, road .version-high)) (omega (arith, road .speed-high)) (omega arith) in
     simp length-append (omega (arith, first))
 
 pub listing-at-most : HoldsListings greatestListing

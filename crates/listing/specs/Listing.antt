@@ -12,6 +12,7 @@ use Rattle.terms.specs.declared.Verdict.{Verdict}
 use Rattle.terms.specs.declared.Verdict.the-variants.{Accepted, Fault}
 use Rattle.distance.specs.declared.Distances.{Distances}
 use Rattle.road.specs.declared.Road.{Road}
+use Rattle.directions.specs.Directions.{forward}
 use Rattle.road_distances.specs.RoadDistances.{roadDistances}
 use Rattle.file.specs.declared.ReadRoad.{ReadRoad}
 use Rattle.file.specs.File.{letters}
@@ -80,11 +81,11 @@ zonesText marks = joined (bitLines marks) (length bitLetters)
 
 -- the marks of a road, a list of just N + 1
 unfoldable pub ownMarks : Road → List ℕ
-ownMarks r = markRoadList greatestShortRoad r (replicate (r .length + 1) 0)
+ownMarks r = markRoadList greatestShortRoad r forward (replicate (r .length + 1) 0)
 
 -- the first line, and the zones of its marks
 unfoldable pub roadText : Road → List ℕ
-roadText r = firstLine (r .version) (r .speed) (roadDistances r) ++ zonesText (ownMarks r)
+roadText r = firstLine (r .version) (r .speed) (roadDistances r forward) ++ zonesText (ownMarks r)
 
 -- by reading's verdict: the road's text, or the line of the refusal
 abbrev pub textFor : Verdict → Road → List ℕ

@@ -127,7 +127,7 @@ fn write_road(road: Road, text: &mut [u8]) -> usize
     ensures { λ r. ⌜ Put (roadText road) 0 r (now (text .entry)) (now (text .exit)) ⌝ }
 {
     let speed = road.speed as u32;
-    let needed = road_distances::road_distances(road);
+    let needed = road_distances::road_distances(road, directions::FORWARD);
     let numbers = [road.version, speed, needed.stopping, needed.decision];
     let next = write_line(b"VCP", &numbers, text, 0);
     let mut marks = [0u8; terms::SHORT_STATIONS];

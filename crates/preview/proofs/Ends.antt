@@ -19,6 +19,7 @@ use Rattle.terms.specs.declared.Verdict.the-variants.{Accepted, Fault}
 use Rattle.terms.proofs.Laws.{room-number}
 use Rattle.road.specs.declared.Road.{Road}
 use Rattle.road.specs.Road.{shortRoadVerdict}
+use Rattle.directions.specs.Directions.{forward}
 use Rattle.road_marks.specs.RoadMarks.{roadMark, markRoadAnswer, markRoadList}
 use Rattle.change.specs.Change.{withLength, changeVerdict}
 use Rattle.change.proofs.Laws.{accepted-change}
@@ -27,11 +28,11 @@ use Rattle.preview.proofs.Differing.{differing-cong}
 
 -- what marking an accepted road leaves at each station of a list with room for it
 marked-at : (r : Road) (list : List ℕ) → shortRoadVerdict r ≡ Accepted → r .length + 1 ≤ length list → (i : ℕ) → i < r .length + 1 →
-    getD (markRoadList greatestShortRoad r list) i 0 ≡ roadMark r i
+    getD (markRoadList greatestShortRoad r forward list) i 0 ≡ roadMark r forward i
 unfolding markRoadList markRoadAnswer
 marked-at r list e room i h =
     rw (room-number (shortRoadVerdict r) (r .length + 1) list e room)
-    (filled-at (roadMark r) 0 (r .length + 1) list i 0 (omega arith) (omega arith) (omega arith))
+    (filled-at (roadMark r forward) 0 (r .length + 1) list i 0 (omega arith) (omega arith) (omega arith))
 
 -- either list is too short
 no-room : (a b : Bool) → a || b ≡ true → fault a roomRefused (fault b roomRefused Accepted) ≡ Fault roomRefused
@@ -66,7 +67,7 @@ module _ (r : Road) (k l : ℕ) (first second : List ℕ) where
   ends-no-room e short = rw (e, no-room (tooShort r first) (tooShort r second) short) (refl, (refl, refl))
 
   pub ends-marked : changeVerdict greatestShortRoad r k l ≡ Accepted → stations ≤ length first → stations ≤ length second →
-      let out = markRoadList greatestShortRoad r first in let out′ = markRoadList greatestShortRoad changed second in
+      let out = markRoadList greatestShortRoad r forward first in let out′ = markRoadList greatestShortRoad changed forward second in
       Ends (Number (differing (λ i. getD out i 0) (λ i. getD out′ i 0) stations)) out out′
   unfolding previewAnswer previewFirst previewSecond previewVerdict withLength
   ends-marked e room room′ =

@@ -6,7 +6,7 @@ use lib.IntN.{ℤ}
 use lib.ListN.{take, getD, set}
 use Rattle.road.specs.declared.Curve.{Curve}
 use Rattle.road.specs.Road.{noCurve}
-use Rattle.road_distances.specs.RoadDistances.{leastGrade, roadDistances}
+use Rattle.road_distances.specs.RoadDistances.{steepestGrade, roadDistances}
 use Rattle.change.specs.Change.{ofLength, withLength}
 use Rattle.preview.specs.SameGrade.{SameGrade}
 
@@ -22,6 +22,6 @@ outs-stay (suc n) (c ∷ cs) (suc k) l = ap (λ (gs : List ℤ). out c ∷ gs) (
 
 pub same-grade : SameGrade
 unfolding withLength roadDistances
-same-grade r k l =
+same-grade r k l back =
     let same = ap (λ (gs : List ℤ). r .«first_grade» ∷ gs) (outs-stay (r .count) (r .curves) k l) in
-    record { grades = same; grade = ap leastGrade same; distances = rw same refl }
+    record { grades = same; grade = ap (steepestGrade back) same; distances = rw same refl }

@@ -12,6 +12,7 @@ use Rattle.terms.specs.declared.Answer.the-variants.{Number}
 use Rattle.terms.specs.declared.Verdict.{Verdict}
 use Rattle.terms.specs.declared.Verdict.the-variants.{Accepted}
 use Rattle.road.specs.declared.Road.{Road}
+use Rattle.directions.specs.Directions.{forward}
 use Rattle.road_marks.specs.RoadMarks.{roadMark, markRoadList}
 use Rattle.change.specs.Change.{withLength, changeVerdict}
 
@@ -36,12 +37,12 @@ previewVerdict r k l first second =
 unfoldable pub previewAnswer : Road → ℕ → ℕ → List ℕ → List ℕ → Answer
 previewAnswer r k l first second =
     unless (previewVerdict r k l first second)
-    (Number (differing (roadMark r) (roadMark (withLength r k l)) (r .length + 1)))
+    (Number (differing (roadMark r forward) (roadMark (withLength r k l) forward) (r .length + 1)))
 
 -- the first list holds what marking the road leaves in it; where the preview is refused it stays
 unfoldable pub previewFirst : Road → ℕ → ℕ → List ℕ → List ℕ → List ℕ
-previewFirst r k l first second = keptUnless (previewVerdict r k l first second) (markRoadList greatestShortRoad r first) first
+previewFirst r k l first second = keptUnless (previewVerdict r k l first second) (markRoadList greatestShortRoad r forward first) first
 
 -- the second likewise holds what marking the changed road leaves in it
 unfoldable pub previewSecond : Road → ℕ → ℕ → List ℕ → List ℕ → List ℕ
-previewSecond r k l first second = keptUnless (previewVerdict r k l first second) (markRoadList greatestShortRoad (withLength r k l) second) second
+previewSecond r k l first second = keptUnless (previewVerdict r k l first second) (markRoadList greatestShortRoad (withLength r k l) forward second) second

@@ -1,7 +1,9 @@
 -- Marking sees of a road's version whether the road is accepted, which it is in both, and nothing else.
 use Prim.Native.Nat.{ℕ, _≤_}
+use mathlib.Core.Bool.{Bool}
 use mathlib.Core.List.{List}
 use mathlib.Core.Path.{_≡_, refl, sym, ap₂, _∙_}
+use lib.IntN.{ℤ}
 use lib.ListN.{length}
 use Rattle.terms.specs.declared.Verdict.the-variants.{Accepted}
 use Rattle.terms.proofs.Laws.{first-fault-accepted}
@@ -10,8 +12,9 @@ use Rattle.road.specs.Road.{verdictUpTo, roadVerdict}
 use Rattle.road.proofs.UpTo.{accepted-up-to}
 use Rattle.heights.specs.Profile.{storedHeight, exactHeight}
 use Rattle.heights.specs.Heights.{heightsAnswer, heightsList, ownHeights}
+use Rattle.distance.specs.declared.Distances.{Distances}
 use Rattle.road_distances.specs.RoadDistances.{roadDistances}
-use Rattle.marks.specs.Marks.{markOf}
+use Rattle.marks.specs.Marks.{markToward}
 use Rattle.road_marks.specs.RoadMarks.{roadMark, markRoadAnswer, markFileAnswer, markFileList}
 use Rattle.file.specs.File.{roadIn}
 use Rattle.file.specs.Reading.{headerVerdict, readVerdictUpTo}
@@ -30,12 +33,12 @@ module _ (r : Road) (ok : roadVerdict r ≡ Accepted) (there : roadVerdict (conv
   unfolding inVersion ownHeights heightsList heightsAnswer storedHeight exactHeight
   same-heights = rw (ok, there) refl
 
-  same-distances : roadDistances (converted r) ≡ roadDistances r
+  same-distances : (back : Bool) → roadDistances (converted r) back ≡ roadDistances r back
   unfolding inVersion roadDistances
-  same-distances = refl
+  same-distances back = refl
 
-  same-mark : roadMark (converted r) ≡ roadMark r
-  same-mark = ap₂ markOf same-heights same-distances
+  same-mark : (back : Bool) → roadMark (converted r) back ≡ roadMark r back
+  same-mark back = ap₂ (λ (list : List ℤ) (d : Distances). markToward list back d) same-heights (same-distances back)
 
 -- ---- the two files
 module _ (s out : List ℕ) (can : convertVerdict s ≡ Accepted) (room : convertedLength s ≤ length out) where
@@ -56,7 +59,7 @@ module _ (s out : List ℕ) (can : convertVerdict s ≡ Accepted) (room : conver
 
 pub marked-alike : MarkedAlike
 unfolding markFileList
-marked-alike most s out marks can room =
+marked-alike most back s out marks can room =
     let answer = same-answer s out can room most marks in
-    let mark = same-mark (roadIn s) (sound s can .road) (accepted-there s can) in
+    let mark = same-mark (roadIn s) (sound s can .road) (accepted-there s can) back in
     record { answer = answer; list = rw (answer, road-in-there s out can room, mark) }

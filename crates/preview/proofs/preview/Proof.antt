@@ -12,6 +12,7 @@ use Rattle.terms.specs.declared.Verdict.the-variants.{Accepted}
 use Rattle.road.specs.declared.Road.{Road}
 use Rattle.road.proofs.Accepted.{accepted-road}
 use Rattle.road.proofs.Places.{curve-places}
+use Rattle.directions.specs.Directions.{forward}
 use Rattle.road_marks.specs.RoadMarks.{markRoadList}
 use Rattle.change.specs.Change.{withLength, changeVerdict}
 use Rattle.change.proofs.Laws.{accepted-change, accepted-length}
@@ -78,8 +79,8 @@ module _ (m : tie.After-mark-short-road2) where
   had-room : let a = start told .args in (a .road .length + 1 ≤ length (a .first .now)) × (a .road .length + 1 ≤ length (a .second .now))
   had-room = let a = start told .args in rooms (a .road) (a .first .now) (a .second .now) (made .before .if1 .left)
 
-  second : let a = start told .args in m .mark-short-road2 .last .1 .0 ≡ markRoadList greatestShortRoad (withLength (a .road) (a .place) (a .length)) (a .second .now)
-  second = let a = start told .args in m .mark-short-road2 .ensures .1 ∙ ap (λ (r : Road). markRoadList greatestShortRoad r (a .second .now)) (made .with-length .ensures)
+  second : let a = start told .args in m .mark-short-road2 .last .1 .0 ≡ markRoadList greatestShortRoad (withLength (a .road) (a .place) (a .length)) forward (a .second .now)
+  second = let a = start told .args in m .mark-short-road2 .ensures .1 ∙ ap (λ (r : Road). markRoadList greatestShortRoad r forward (a .second .now)) (made .with-length .ensures)
 
 count-differing-requires : tie.Need-count-differing-requires
 count-differing-requires c κs =
