@@ -1,6 +1,7 @@
 -- What the exported functions over a road file answer and leave in a lent list: as the operation on the file's road does,
 -- unless the file is refused.
 use Prim.Native.Nat.{ℕ}
+use mathlib.Core.Bool.{Bool}
 use mathlib.Core.List.{List}
 use lib.IntN.{ℤ, natAbs}
 use Rattle.terms.specs.Answers.{unless, keptUnless}
@@ -26,6 +27,7 @@ fileHeightsAnswer file list = unless (readVerdict file) (heightsAnswer (roadIn f
 unfoldable pub fileHeightsList : List ℕ → List ℤ → List ℤ
 fileHeightsList file list = keptUnless (readVerdict file) (heightsList (roadIn file) list) list
 
--- a file read and its road's steepest downgrade: the grade that the road is marked with, which is never positive, without its sign
-unfoldable pub fileDowngrade : List ℕ → Answer
-fileDowngrade file = unless (readVerdict file) (Number (natAbs (roadGrade (roadIn file))))
+-- a file read and its road's steepest downgrade in a direction: the grade that the road is marked with, without its sign. That grade is
+-- never positive, and towards falling stations never negative
+unfoldable pub fileDowngrade : List ℕ → Bool → Answer
+fileDowngrade file back = unless (readVerdict file) (Number (natAbs (roadGrade (roadIn file) back)))

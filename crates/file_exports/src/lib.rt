@@ -34,11 +34,11 @@ pub extern "C" fn vcp_file_heights(file: &[u8], list: &mut [i32]) -> i64
     terms::signed_answer(heights::heights(road, list))
 }
 
-// The grade that the road is marked with is never positive, and a negative answer would be a refusal: so it is answered without its
-// sign.
+// The grade that the road is marked with is never positive, and towards falling stations never negative. A negative answer would be a
+// refusal: so it is answered without its sign.
 #[no_mangle]
-pub extern "C" fn vcp_file_downgrade(file: &[u8]) -> i64
-    ensures { λ r. ⌜ r ≡ signed (fileDowngrade (now (file .entry))) ⌝ }
+pub extern "C" fn vcp_file_downgrade(file: &[u8], back: bool) -> i64
+    ensures { λ r. ⌜ r ≡ signed (fileDowngrade (now (file .entry)) back) ⌝ }
 {
     let read = file::read(file, terms::GREATEST_LONG_ROAD);
     let verdict = read.verdict;
@@ -46,5 +46,9 @@ pub extern "C" fn vcp_file_downgrade(file: &[u8]) -> i64
         return terms::signed_answer(Answer::Refused(fault));
     }
     let road = read.road;
-    -(road_distances::road_grade(road) as i64)
+    let grade = road_distances::road_grade(road, back) as i64;
+    if back {
+        return grade;
+    }
+    -grade
 }
