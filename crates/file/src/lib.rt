@@ -119,7 +119,7 @@ fn curve_at(file: &[u8], version: u32, k: u8) -> Curve
     }
 }
 
-const NO_CURVE: Curve = Curve {
+pub const NO_CURVE: Curve = Curve {
     pvi: 0,
     length: 0,
     grade_out: 0,
@@ -158,7 +158,7 @@ fn road_in(file: &[u8]) -> Road
     }
 }
 
-const NO_ROAD: Road = Road {
+pub const NO_ROAD: Road = Road {
     version: 0,
     speed: 0,
     purpose: 0,

@@ -40,7 +40,7 @@ pub record Walked (r : Road) (i : ℕ) (at : Walk) (first list : List ℤ) : Typ
 
 -- ---- the start
 -- no metre on, the height is the same
-straight-none : (z g : ℤ) → straight z g 0 ≡ z
+pub straight-none : (z g : ℤ) → straight z g 0 ≡ z
 straight-none z g = let v = var z in let w = var g in eq-by (search reps) v (omega arith)
 
 from-start : (z g : ℤ) (cs : List Curve) → exactFrom 0 z g cs 0 ≡ whole z
@@ -48,7 +48,7 @@ unfolding exactFrom
 from-start z g [] = ap whole (straight-none z g)
 from-start z g (c ∷ cs) = rw (le-leb 0 (begin c) (omega arith)) (ap whole (straight-none z g))
 
-stored-start : (r : Road) → r .«start_height» ≡ storedHeight r 0
+pub stored-start : (r : Road) → r .«start_height» ≡ storedHeight r 0
 unfolding storedHeight exactHeight
 stored-start r =
     sym (ap floor (from-start (r .«start_height») (r .«first_grade») (curvesOf r)) ∙ floor-whole (r .«start_height»))

@@ -1,11 +1,11 @@
--- What acceptance says: every number of an accepted road is in its range, and its curves are in order and in their ranges.
+-- What acceptance says: every number of an accepted road is in its range, and its curves are in order, in their ranges and no sharp breaks.
 use Prim.Native.Nat.{ℕ, zero, suc, _≤_, _<_, _%_, min}
-use mathlib.Core.Bool.{not}
+use mathlib.Core.Bool.{Bool, true, false, not}
 use mathlib.Core.List.{List, [], _∷_}
-use mathlib.Core.Path.{_≡_}
+use mathlib.Core.Path.{_≡_, refl}
 use native.Mathlib.Omega.{arith}
 use mir.Facts.{or-no}
-use lib.Dec.{ltb, eqb, nltb→le}
+use lib.Dec.{T, ltb, eqb, nltb→le}
 use lib.IntN.{pos, negℤ}
 use lib.ListN.{length, getD}
 use lib.Seq.{getD-take, length-take-le}
@@ -13,22 +13,28 @@ use lib.Signed.{_≤ℤ_}
 use Rattle.whole.proofs.Table.{Each}
 use Rattle.terms.specs.Answers.{outside, outsideℤ, gradeOutside}
 use Rattle.terms.specs.Limits.{firstVersion, secondVersion, leastSpeed, greatestSpeed, firstDecision, lastPurpose, lowestStart, highestStart, greatestGrade, greatestCurveCount, greatestCurve}
-use Rattle.terms.specs.Refusals.{versionRefused, curveCountRefused, speedRefused, purposeRefused, roadLengthRefused, startRefused, gradeRefused, curveLengthRefused, curvePlaceRefused, curveOrderRefused}
+use Rattle.terms.specs.Refusals.{versionRefused, curveCountRefused, speedRefused, purposeRefused, roadLengthRefused, startRefused, gradeRefused, curveLengthRefused, curvePlaceRefused, curveOrderRefused, sharpBreakRefused}
 use Rattle.terms.specs.declared.Verdict.the-variants.{Accepted}
 use Rattle.terms.proofs.Laws.{fault-accepted, first-fault-accepted, no-difference, inside, inside-ℤ}
 use Rattle.road.specs.declared.Curve.{Curve}
 use Rattle.road.specs.declared.Road.{Road}
-use Rattle.road.specs.Road.{half, begin, end, startOf, curvesOf, lengthOutside, placeOutside, curveVerdict, curvesVerdict, longestRoad, numbersVerdict, verdictUpTo}
-use Rattle.road.specs.Order.{Placed, InOrder, CurveInRange}
+use Rattle.road.specs.Road.{half, begin, end, startOf, curvesOf, lengthOutside, placeOutside, sharpBreak, curveVerdict, curvesVerdict, longestRoad, numbersVerdict, verdictUpTo}
+use Rattle.road.specs.Order.{Placed, InOrder, CurveInRange, NotSharp, Smooth}
 
 -- ---- curves
-accepted-curve : (n : ℕ) (before c : Curve) → curveVerdict n before c ≡ Accepted → Placed n (end before) c × CurveInRange c
+is-false : (test : Bool) → T (not test) → test ≡ false
+is-false true t = absurd t
+is-false false t = refl
+
+accepted-curve : (n : ℕ) (before c : Curve) → curveVerdict n before c ≡ Accepted →
+    Placed n (end before) c × CurveInRange c × NotSharp (before .«grade_out») c
 unfolding curveVerdict
 accepted-curve n before c e =
     let grade = fault-accepted (gradeOutside (c .«grade_out»)) gradeRefused _ e in
     let size = fault-accepted (lengthOutside c) curveLengthRefused _ (grade .1) in
     let place = fault-accepted (placeOutside n c) curvePlaceRefused _ (size .1) in
     let order = fault-accepted (ltb (begin c) (end before)) curveOrderRefused _ (place .1) in
+    let sharp = fault-accepted (sharpBreak before c) sharpBreakRefused _ (order .1) in
     let g = inside-ℤ (negℤ (pos greatestGrade)) (pos greatestGrade) (c .«grade_out») (grade .0) in
     let s = or-no (not (eqb (c .length % 2) 0)) (ltb greatestCurve (c .length)) (size .0) in
     let p = or-no (ltb (c .pvi) (half c)) (ltb n (end c)) (place .0) in (
@@ -39,19 +45,21 @@ accepted-curve n before c e =
         ordered = nltb→le (begin c) (end before) (order .0);
       },
       record { grade-low = g .0; grade-high = g .1; short = nltb→le greatestCurve (c .length) (s .1) },
+      is-false (sharpBreak before c) (sharp .0),
     )
 
 accepted-curves : (n : ℕ) (before : Curve) (cs : List Curve) → curvesVerdict n before cs ≡ Accepted →
-    InOrder n (end before) cs × Each CurveInRange cs
+    InOrder n (end before) cs × Each CurveInRange cs × Smooth (before .«grade_out») cs
 unfolding curvesVerdict
-accepted-curves n before [] e = (tt, tt)
+accepted-curves n before [] e = (tt, tt, tt)
 accepted-curves n before (c ∷ cs) e =
     let both = first-fault-accepted (curveVerdict n before c) _ e in
     let here = accepted-curve n before c (both .0) in let rest = accepted-curves n c cs (both .1) in
-    ((here .0, rest .0), (here .1, rest .1))
+    ((here .0, rest .0), (here .1, rest .1), (here .2, rest .2))
 
 -- ---- a road
--- every number of the road is in its range, where none over `most` metres is taken, and its curves are in order and in their ranges
+-- every number of the road is in its range, where none over `most` metres is taken, and its curves are in order, in their ranges and no
+-- sharp breaks
 pub record SoundRoad (most : ℕ) (r : Road) : Type 0 where
   pub version-low : firstVersion ≤ r .version
   pub version-high : r .version ≤ secondVersion
@@ -69,6 +77,7 @@ pub record SoundRoad (most : ℕ) (r : Road) : Type 0 where
   pub grade-high : r .«first_grade» ≤ℤ pos greatestGrade
   pub in-order : InOrder (r .length) 0 (curvesOf r)
   pub in-range : Each CurveInRange (curvesOf r)
+  pub smooth : Smooth (r .«first_grade») (curvesOf r)
 
 pub accepted-road : {most : ℕ} (r : Road) → verdictUpTo most r ≡ Accepted → SoundRoad most r
 unfolding verdictUpTo numbersVerdict
