@@ -1,0 +1,9 @@
+pub mod Values
+pub mod Order
+pub mod Behind
+pub mod Back
+pub mod Accepted
+pub mod Heights
+pub mod Twice
+pub mod Grades
+pub mod Lane

@@ -1,0 +1,2 @@
+pub mod Mirroring
+pub mod LaneComingBack
