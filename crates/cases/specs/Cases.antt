@@ -1,6 +1,7 @@
 -- The starred cases, which are worked examples of the rules, by the headings of docs/RULES.md; the acceptance of the two
 -- roads whose heights are given and the height 0 at 100 stand beside them.
 use mathlib.Core.Path.{_≡_}
+use mathlib.Core.Bool.{Bool}
 use mathlib.Core.List.{List, [], _∷_, _++_}
 use Prim.Native.Nat.{ℕ, _*_, _-_, _/_}
 use lib.IntN.{ℤ, pos, negℤ}
@@ -10,6 +11,7 @@ use Rattle.terms.specs.Refusals.{shortFileRefused, versionRefused, totalRefused
 use Rattle.terms.specs.declared.Answer.{Answer}
 use Rattle.terms.specs.declared.Answer.the-variants.{Number, Refused}
 use Rattle.terms.specs.declared.Verdict.the-variants.{Accepted, Fault}
+use Rattle.directions.specs.Directions.{forward, backward}
 use Rattle.distance.specs.declared.Manoeuvre.{Manoeuvre}
 use Rattle.distance.specs.Distance.{purposeRow, metreParts, levelParts, requiredDistance}
 use Rattle.distance.specs.PassingDistance.{passingMetre, passingParts, passingDistance}
@@ -23,9 +25,12 @@ use Rattle.heights.specs.Profile.{storedHeight}
 use Rattle.heights.specs.Heights.{ownHeights}
 use Rattle.sight.specs.Operations.{sightAnswer}
 use Rattle.sight.specs.Comparisons.{comparisonsAnswer}
+use Rattle.road_distances.specs.RoadDistances.{roadDistances}
+use Rattle.marks.specs.Marks.{marksList}
 use Rattle.conversion.specs.Conversion.{convertAnswer, convertList}
 use Rattle.change.specs.Change.{changeVerdict}
 use Rattle.preview.specs.Preview.{previewAnswer, previewFirst, previewSecond}
+use Rattle.mirror.specs.Mirror.{mirror, mirrorVerdict}
 use Rattle.passing.specs.Passing.{passingList}
 
 -- a curve by its PVI, its length and its grade out
@@ -73,6 +78,10 @@ breaksRoad g h = roadOf (pos 300) (curve 50 0 (pos g) ∷ curve 50 0 (pos h) ∷
 unfoldable pub crestAndSag : Road
 crestAndSag = roadOf (pos 300) (curve 30 20 (negℤ (pos 300)) ∷ curve 60 20 (pos 300) ∷ [])
 
+-- first grade 300, a crest of 20 m with PVI 30 and grade −200, and a break at station 60 to −250
+unfoldable pub crestAndBreak : Road
+crestAndBreak = roadOf (pos 300) (curve 30 20 (negℤ (pos 200)) ∷ curve 60 0 (negℤ (pos 250)) ∷ [])
+
 -- at 20 km/h, N 40, first grade 900, a crest of 2 m with PVI 20 and grade −900
 unfoldable pub shortCrest : Road
 shortCrest = roadFor 20 40 (pos 900) (curve 20 2 (negℤ (pos 900)) ∷ [])
@@ -119,6 +128,10 @@ leastAdequate a s = leastLength (crestAdequate a s eyeHeight objectHeight)
 -- a manoeuvre by t1, a, v, m, t2 and d3
 unfoldable pub manoeuvre : ℕ → ℕ → ℕ → ℕ → ℕ → ℕ → Manoeuvre
 manoeuvre t1 a v m t2 d3 = record { t1 = t1; a = a; v = v; m = m; t2 = t2; d3 = d3 }
+
+-- what Marks leaves of 22 bytes of 255 for 22 level stations at 20 km/h, decision A, with this grade in this direction
+unfoldable pub marksOver : ℤ → Bool → List ℕ
+marksOver g back = marksList 20 1 g (replicate 22 (pos 0)) back (replicate 22 255)
 
 -- what Passing marks leaves of three bytes of 255 for heights 0, h, 0 and this passing distance
 unfoldable pub passingOver : ℤ → ℕ → List ℕ
@@ -246,17 +259,36 @@ pub record StarredCases : Type 0 where
       × (previewAnswer shortCrest 1 10 (replicate 40 255) (replicate 40 255) ≡ Refused noCurveRefused)
   -- What can be seen: from station 0 with farthest 8
   pub sights :
-      (sightAnswer (pos 0 ∷ pos 20 ∷ pos 0 ∷ pos 100 ∷ []) 0 10 5 8 ≡ Number 1)
-      × (sightAnswer (pos 0 ∷ pos 5 ∷ pos 0 ∷ []) 0 6 4 8 ≡ Number 2)
-      × (sightAnswer (pos 0 ∷ pos 6 ∷ pos 0 ∷ []) 0 6 4 8 ≡ Number 1)
+      (sightAnswer (pos 0 ∷ pos 20 ∷ pos 0 ∷ pos 100 ∷ []) forward 0 10 5 8 ≡ Number 1)
+      × (sightAnswer (pos 0 ∷ pos 5 ∷ pos 0 ∷ []) forward 0 6 4 8 ≡ Number 2)
+      × (sightAnswer (pos 0 ∷ pos 6 ∷ pos 0 ∷ []) forward 0 6 4 8 ≡ Number 1)
   -- What can be seen: what the quick search compares there, up to the first hidden station, where all is seen over a hump and where its
   -- road is too, and on the level up to two farthest distances
   pub comparisons :
-      (comparisonsAnswer (pos 0 ∷ pos 20 ∷ pos 0 ∷ pos 100 ∷ []) 0 10 5 8 ≡ Number 3)
-      × (comparisonsAnswer (pos 0 ∷ pos 5 ∷ pos 0 ∷ []) 0 6 4 8 ≡ Number 3)
-      × (comparisonsAnswer (pos 0 ∷ pos 3 ∷ pos 0 ∷ []) 0 6 4 8 ≡ Number 2)
-      × (comparisonsAnswer (replicate 4 (pos 0)) 0 6 4 8 ≡ Number 3)
-      × (comparisonsAnswer (replicate 4 (pos 0)) 0 6 4 2 ≡ Number 2)
+      (comparisonsAnswer (pos 0 ∷ pos 20 ∷ pos 0 ∷ pos 100 ∷ []) forward 0 10 5 8 ≡ Number 3)
+      × (comparisonsAnswer (pos 0 ∷ pos 5 ∷ pos 0 ∷ []) forward 0 6 4 8 ≡ Number 3)
+      × (comparisonsAnswer (pos 0 ∷ pos 3 ∷ pos 0 ∷ []) forward 0 6 4 8 ≡ Number 2)
+      × (comparisonsAnswer (replicate 4 (pos 0)) forward 0 6 4 8 ≡ Number 3)
+      × (comparisonsAnswer (replicate 4 (pos 0)) forward 0 6 4 2 ≡ Number 2)
+  -- The lane coming back: sight from stations 3, 1 and 0 towards falling stations; the stopping distance of a road at 90 km/h that climbs
+  -- by 6 %, in either direction; and the marks of 22 level stations at 20 km/h, whose last two see as far as stopping takes back to
+  -- station 0, with the grade 9 %, which falls towards falling stations, where none does, and a grade out of range
+  pub back :
+      (sightAnswer (pos 0 ∷ pos 20 ∷ pos 0 ∷ pos 100 ∷ []) backward 3 10 5 8 ≡ Number 3)
+      × (sightAnswer (pos 0 ∷ pos 20 ∷ pos 0 ∷ pos 100 ∷ []) backward 1 10 5 8 ≡ Number 1)
+      × (sightAnswer (pos 0 ∷ pos 20 ∷ pos 0 ∷ pos 100 ∷ []) backward 0 10 5 8 ≡ Number 0)
+      × (roadDistances (roadFor 90 100 (pos 600) []) forward .stopping ≡ 160)
+      × (roadDistances (roadFor 90 100 (pos 600) []) backward .stopping ≡ 175)
+      × (marksOver (pos 0) backward ≡ replicate 20 24 ++ replicate 2 16)
+      × (marksOver (pos 900) forward ≡ replicate 2 16 ++ replicate 20 24)
+      × (marksOver (pos 900) backward ≡ replicate 22 24)
+      × (marksOver (pos 1501) backward ≡ replicate 22 255)
+  -- The lane coming back: the mirror of a road with a crest and a break, and that it is accepted; and a road that climbs from the highest
+  -- start, whose mirror starts too high
+  pub mirrors :
+      (mirror crestAndBreak ≡ roadFrom 1 80 100 (negℤ (pos 7000)) (pos 250) (curve 40 0 (pos 200) ∷ curve 70 20 (negℤ (pos 300)) ∷ []))
+      × (mirrorVerdict crestAndBreak ≡ Accepted)
+      × (mirrorVerdict (roadFrom 1 80 8000 (pos 90000000) (pos 1500) []) ≡ Fault startRefused)
   -- Passing: the line touches the road, or is cut; and the road ends too soon
   pub passing-marks :
       (passingOver (pos 10800) 2 ≡ 0 ∷ 64 ∷ 64 ∷ [])
