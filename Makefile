@@ -17,7 +17,7 @@ ROAD ?= roads/three-crests.vcp
 PREFIX ?= /usr/local
 
 # The proved crates that Rust links, and what they are proved and built from.
-LIBRARIES := van curve_exports sight_exports engine_exports marks_exports passing_exports file_exports road_exports preview_exports listing_exports conversion_exports
+LIBRARIES := van curve_exports sight_exports engine_exports marks_exports passing_exports file_exports road_exports preview_exports listing_exports conversion_exports mirror_exports
 SOURCES := crates.txt $(shell find crates -type f)
 
 # Proves every crate from nothing, tries every must-fail edit and runs the lister; then links the proved functions into
@@ -74,8 +74,8 @@ textable:
 	$(call need,[ -f "$(TEXT)" ],$(or $(TEXT),TEXT) is not a file: make road TEXT=file [ROAD=out])
 
 # Times the proved functions beside the same calculations in safe Rust and beside the literal rule, long roads beside short ones,
-# the quick engine of sight beside the slow one, and the listing of a thousand roads beside their marking; measures the stack of
-# each operation; and prints the tables. It takes three minutes or so.
+# the lane coming back beside a mirror, the quick engine of sight beside the slow one, and the listing of a thousand roads beside
+# their marking; measures the stack of each operation; and prints the tables. It takes three minutes or so.
 bench: vcp
 	cargo run --profile bench-run --offline --quiet --bin bench
 

@@ -14,5 +14,6 @@ fn main() {
         "preview_exports",
         "listing_exports",
         "conversion_exports",
+        "mirror_exports",
     ]);
 }

@@ -1,6 +1,6 @@
 //! The proved operations that the van does not call, safe to call from the command `vcp` and from the tests: the functions
 //! of the crates `curve_exports`, `sight_exports`, `engine_exports`, `marks_exports`, `passing_exports`, `file_exports`,
-//! `road_exports`, `preview_exports`, `listing_exports` and `conversion_exports`.
+//! `road_exports`, `preview_exports`, `listing_exports`, `conversion_exports` and `mirror_exports`.
 //!
 //! Units are those of docs/RULES.md: metres along the road, h-units (tenths of a millimetre) for heights, hundredths of a
 //! percent for grades, uphill positive, and km/h; those of passing stand at [`Manoeuvre`].
@@ -58,11 +58,19 @@ pub const PASSING_NOT_JUDGED_BIT: u32 = 6;
 // A test compares these declarations with the crates' src/lib.rt.
 extern "C" {
     fn vcp_sag_length(speed: u32, rise: u32, sight: u32) -> i64;
-    fn vcp_sight(heights: *const i32, heights_length: usize, station: u32, eye: u32, object: u32, farthest: u32)
-        -> i64;
+    fn vcp_sight(
+        heights: *const i32,
+        heights_length: usize,
+        back: bool,
+        station: u32,
+        eye: u32,
+        object: u32,
+        farthest: u32,
+    ) -> i64;
     fn vcp_sight_profile(
         heights: *const i32,
         heights_length: usize,
+        back: bool,
         eye: u32,
         object: u32,
         farthest: u32,
@@ -72,6 +80,7 @@ extern "C" {
     fn vcp_slow_sight(
         heights: *const i32,
         heights_length: usize,
+        back: bool,
         station: u32,
         eye: u32,
         object: u32,
@@ -80,6 +89,7 @@ extern "C" {
     fn vcp_slow_sight_profile(
         heights: *const i32,
         heights_length: usize,
+        back: bool,
         eye: u32,
         object: u32,
         farthest: u32,
@@ -89,6 +99,7 @@ extern "C" {
     fn vcp_sight_comparisons(
         heights: *const i32,
         heights_length: usize,
+        back: bool,
         station: u32,
         eye: u32,
         object: u32,
@@ -100,9 +111,11 @@ extern "C" {
         grade: i32,
         heights: *const i32,
         heights_length: usize,
+        back: bool,
         list: *mut u8,
         list_length: usize,
     ) -> i64;
+    fn vcp_driven_distance(speed: u32, purpose: u32, grade: i32, back: bool) -> i64;
     fn vcp_passing_distance(t1: u32, a: u32, v: u32, m: u32, t2: u32, d3: u32) -> i64;
     fn vcp_passing_marks(
         heights: *const i32,
@@ -114,9 +127,9 @@ extern "C" {
     fn vcp_zones(marks: *const u8, marks_length: usize, bit: u32, list: *mut u32, list_length: usize) -> i64;
     fn vcp_rewrite(file: *const u8, file_length: usize, out: *mut u8, out_length: usize) -> i64;
     fn vcp_file_heights(file: *const u8, file_length: usize, list: *mut i32, list_length: usize) -> i64;
-    fn vcp_file_downgrade(file: *const u8, file_length: usize) -> i64;
-    fn vcp_mark_file(file: *const u8, file_length: usize, marks: *mut u8, marks_length: usize) -> i64;
-    fn vcp_file_distance(file: *const u8, file_length: usize, purpose: u32) -> i64;
+    fn vcp_file_downgrade(file: *const u8, file_length: usize, back: bool) -> i64;
+    fn vcp_mark_file(file: *const u8, file_length: usize, back: bool, marks: *mut u8, marks_length: usize) -> i64;
+    fn vcp_file_distance(file: *const u8, file_length: usize, back: bool, purpose: u32) -> i64;
     fn vcp_short_stations(file: *const u8, file_length: usize) -> i64;
     fn vcp_change_length(
         file: *const u8,
@@ -138,6 +151,7 @@ extern "C" {
     ) -> i64;
     fn vcp_list_road_file(file: *const u8, file_length: usize, text: *mut u8, text_length: usize) -> i64;
     fn vcp_convert(file: *const u8, file_length: usize, out: *mut u8, out_length: usize) -> i64;
+    fn vcp_mirror(file: *const u8, file_length: usize, out: *mut u8, out_length: usize) -> i64;
 }
 
 /// The least even length in metres of a sag in which headlights reach a sight distance in metres, and which is at least 0.6 V
@@ -151,6 +165,22 @@ pub fn sag_length(speed: u32, rise: u32, sight: u32) -> Result<u32, Refusal> {
     refusal::answer(unsafe { vcp_sag_length(speed, rise, sight) })
 }
 
+/// The way that a driver goes and looks.
+#[derive(Clone, Copy, Debug, PartialEq, Eq)]
+pub enum Direction {
+    /// Towards rising stations, as the road is measured.
+    Rising,
+    /// Towards falling stations: the lane coming back.
+    Falling,
+}
+
+impl Direction {
+    /// As the proved functions take it.
+    fn is_back(self) -> bool {
+        self == Direction::Falling
+    }
+}
+
 /// The heights of eye and object above the road, and the farthest distance that is looked at.
 #[derive(Clone, Copy, Debug, PartialEq, Eq)]
 pub struct Look {
@@ -162,26 +192,38 @@ pub struct Look {
     pub farthest: u32,
 }
 
-/// The available sight from a station over these heights.
+/// The available sight from a station over these heights, in a direction: towards falling stations it is that of the other
+/// direction with the stations counted from the other end.
 ///
 /// # Errors
 /// Refused 19 if the list is empty or longer than [`GREATEST_LIST`], 20 if the station is beyond the last, 17 if either
 /// height is not 1 to 50,000, 21 if the farthest distance is not 1 to [`GREATEST_FARTHEST`].
-pub fn sight(heights: &[i32], station: u32, look: Look) -> Result<u32, Refusal> {
+pub fn sight(heights: &[i32], direction: Direction, station: u32, look: Look) -> Result<u32, Refusal> {
     let Look { eye, object, farthest } = look;
     // SAFETY: the pointer is that of a slice and comes with its length; nothing is written or kept.
-    refusal::answer(unsafe { vcp_sight(heights.as_ptr(), heights.len(), station, eye, object, farthest) })
+    refusal::answer(unsafe {
+        vcp_sight(heights.as_ptr(), heights.len(), direction.is_back(), station, eye, object, farthest)
+    })
 }
 
-/// Fills the available sight from each station over these heights.
+/// Fills the available sight from each station over these heights, in a direction. The first place is that of station 0 in either.
 ///
 /// # Errors
 /// Refused 19, 17, 21 as [`sight`] is, then 14 if the list of sights is shorter than the heights.
-pub fn sight_profile(heights: &[i32], look: Look, sights: &mut [u16]) -> Result<u32, Refusal> {
+pub fn sight_profile(heights: &[i32], direction: Direction, look: Look, sights: &mut [u16]) -> Result<u32, Refusal> {
     let Look { eye, object, farthest } = look;
     // SAFETY: each pointer is that of a slice and comes with its length; a mutable borrow overlaps no other; neither is kept.
     refusal::answer(unsafe {
-        vcp_sight_profile(heights.as_ptr(), heights.len(), eye, object, farthest, sights.as_mut_ptr(), sights.len())
+        vcp_sight_profile(
+            heights.as_ptr(),
+            heights.len(),
+            direction.is_back(),
+            eye,
+            object,
+            farthest,
+            sights.as_mut_ptr(),
+            sights.len(),
+        )
     })
 }
 
@@ -191,10 +233,12 @@ pub fn sight_profile(heights: &[i32], look: Look, sights: &mut [u16]) -> Result<
 ///
 /// # Errors
 /// Refused as [`sight`] is.
-pub fn slow_sight(heights: &[i32], station: u32, look: Look) -> Result<u32, Refusal> {
+pub fn slow_sight(heights: &[i32], direction: Direction, station: u32, look: Look) -> Result<u32, Refusal> {
     let Look { eye, object, farthest } = look;
     // SAFETY: as for `sight`.
-    refusal::answer(unsafe { vcp_slow_sight(heights.as_ptr(), heights.len(), station, eye, object, farthest) })
+    refusal::answer(unsafe {
+        vcp_slow_sight(heights.as_ptr(), heights.len(), direction.is_back(), station, eye, object, farthest)
+    })
 }
 
 /// The same as [`sight_profile`], each sight worked out as [`slow_sight`] does. The answer and the list are the same, the time is
@@ -202,13 +246,19 @@ pub fn slow_sight(heights: &[i32], station: u32, look: Look) -> Result<u32, Refu
 ///
 /// # Errors
 /// Refused as [`sight_profile`] is.
-pub fn slow_sight_profile(heights: &[i32], look: Look, sights: &mut [u16]) -> Result<u32, Refusal> {
+pub fn slow_sight_profile(
+    heights: &[i32],
+    direction: Direction,
+    look: Look,
+    sights: &mut [u16],
+) -> Result<u32, Refusal> {
     let Look { eye, object, farthest } = look;
     // SAFETY: as for `sight_profile`.
     refusal::answer(unsafe {
         vcp_slow_sight_profile(
             heights.as_ptr(),
             heights.len(),
+            direction.is_back(),
             eye,
             object,
             farthest,
@@ -223,23 +273,53 @@ pub fn slow_sight_profile(heights: &[i32], look: Look, sights: &mut [u16]) -> Re
 ///
 /// # Errors
 /// Refused as [`sight`] is.
-pub fn sight_comparisons(heights: &[i32], station: u32, look: Look) -> Result<u32, Refusal> {
+pub fn sight_comparisons(heights: &[i32], direction: Direction, station: u32, look: Look) -> Result<u32, Refusal> {
     let Look { eye, object, farthest } = look;
     // SAFETY: as for `sight`.
-    refusal::answer(unsafe { vcp_sight_comparisons(heights.as_ptr(), heights.len(), station, eye, object, farthest) })
+    refusal::answer(unsafe {
+        vcp_sight_comparisons(heights.as_ptr(), heights.len(), direction.is_back(), station, eye, object, farthest)
+    })
 }
 
-/// Marks each station of these heights, for a speed and a decision purpose, by the distances on a grade.
-/// `vcp::mark_road_file` says what the bits mean.
+/// Marks each station of these heights for a driver in a direction, for a speed and a decision purpose, by the distances on a
+/// grade. The grade is that of rising stations in either direction: whoever drives towards falling ones drives down what rises.
+/// `vcp::mark_road_file` says what the bits mean; towards falling stations a distance is not judged where it does not fit before
+/// station 0.
 ///
 /// # Errors
 /// Refused 6 if the speed is not 20 to 130, 7 if the purpose is not 1 to 5, 10 if the grade is not -1,500 to 1,500, 19 if
 /// the heights are none or more than [`GREATEST_LIST`], 14 if the list of marks is shorter than the heights.
-pub fn marks(speed: u32, purpose: u32, grade: i32, heights: &[i32], list: &mut [u8]) -> Result<u32, Refusal> {
+pub fn marks(
+    speed: u32,
+    purpose: u32,
+    grade: i32,
+    heights: &[i32],
+    direction: Direction,
+    list: &mut [u8],
+) -> Result<u32, Refusal> {
     // SAFETY: as for `sight_profile`.
     refusal::answer(unsafe {
-        vcp_marks(speed, purpose, grade, heights.as_ptr(), heights.len(), list.as_mut_ptr(), list.len())
+        vcp_marks(
+            speed,
+            purpose,
+            grade,
+            heights.as_ptr(),
+            heights.len(),
+            direction.is_back(),
+            list.as_mut_ptr(),
+            list.len(),
+        )
     })
+}
+
+/// The distance in metres that a driver in a direction needs for a purpose. The grade is that of rising stations in either direction;
+/// [`marks`] are taken with these distances.
+///
+/// # Errors
+/// Refused 6 if the speed is not 20 to 130, 7 if the purpose is not 0 to 5, 10 if the grade is not -1,500 to 1,500.
+pub fn driven_distance(speed: u32, purpose: u32, grade: i32, direction: Direction) -> Result<u32, Refusal> {
+    // SAFETY: it takes any four values and touches no memory of the caller.
+    refusal::answer(unsafe { vcp_driven_distance(speed, purpose, grade, direction.is_back()) })
 }
 
 /// How a car passes another on a two-lane road, by the names of AASHTO's formula.
@@ -269,9 +349,9 @@ pub fn passing_distance(manoeuvre: Manoeuvre) -> Result<u32, Refusal> {
     refusal::answer(unsafe { vcp_passing_distance(t1, a, v, m, t2, d3) })
 }
 
-/// Marks each station of these heights for a passing distance in metres, with the eye at [`EYE_HEIGHT`] and the object at
-/// [`PASSING_OBJECT_HEIGHT`]: the mark has the bit [`PASSING_LACKING_BIT`] where passing is judged and sight lacks,
-/// [`PASSING_NOT_JUDGED_BIT`] where the road ends before the distance does, and no other.
+/// Marks each station of these heights for a passing distance in metres, towards rising stations alone, with the eye at
+/// [`EYE_HEIGHT`] and the object at [`PASSING_OBJECT_HEIGHT`]: the mark has the bit [`PASSING_LACKING_BIT`] where passing is judged
+/// and sight lacks, [`PASSING_NOT_JUDGED_BIT`] where the road ends before the distance does, and no other.
 ///
 /// # Errors
 /// Refused 19 if the heights are none or more than [`GREATEST_LIST`], 21 if the distance is not 1 to [`GREATEST_FARTHEST`], 14 if
@@ -312,37 +392,44 @@ pub fn file_heights(file: &[u8], list: &mut [i32]) -> Result<u32, Refusal> {
     refusal::answer(unsafe { vcp_file_heights(file.as_ptr(), file.len(), list.as_mut_ptr(), list.len()) })
 }
 
-/// Reads a road file and answers the grade that its road is marked with: the least of the road's grades, the first one
-/// included, or 0 if none is negative.
+/// Reads a road file and answers the grade that its road is marked with in a direction, as for rising stations: towards rising
+/// ones the least of the road's grades, the first one included, or 0 if none is negative; towards falling ones the greatest, or 0
+/// if none is positive.
 ///
 /// # Errors
 /// Refused 1 to 13 and 25 as reading the file refuses it.
-pub fn file_grade(file: &[u8]) -> Result<i32, Refusal> {
+pub fn file_grade(file: &[u8], direction: Direction) -> Result<i32, Refusal> {
     // SAFETY: as for `sight`.
-    let downgrade = refusal::answer(unsafe { vcp_file_downgrade(file.as_ptr(), file.len()) })?;
-    // The proved function answers the grade without its sign: it is never positive, and a negative answer would be a refusal.
-    Ok(-(downgrade as i32))
+    let downgrade = refusal::answer(unsafe { vcp_file_downgrade(file.as_ptr(), file.len(), direction.is_back()) })?;
+    // The proved function answers the steepest downgrade as it is driven, without its sign: a negative answer would be a refusal.
+    let downgrade = downgrade as i32;
+    Ok(match direction {
+        Direction::Rising => -downgrade,
+        Direction::Falling => downgrade,
+    })
 }
 
-/// Reads a road file of either version and writes the mark of each station of its road, from station 0 on; answers how many
-/// stations there are. `vcp::mark_road_file` says what the bits mean; that one takes no road over 8,000 m. A list of
-/// [`LONG_STATIONS`] holds any road's. The call needs about 400 KiB of the thread's stack.
+/// Reads a road file of either version and writes the mark of each station of its road for a driver in a direction, from station
+/// 0 on in either; answers how many stations there are. [`marks`] says what the bits mean; `vcp::mark_road_file` takes no road over
+/// 8,000 m. A list of [`LONG_STATIONS`] holds any road's. The call needs about 400 KiB of the thread's stack.
 ///
 /// # Errors
 /// Refused 1 to 13 and 25 as reading the file refuses it, then 14 if the list has fewer places than the road has stations.
-pub fn mark_file(file: &[u8], marks: &mut [u8]) -> Result<u32, Refusal> {
+pub fn mark_file(file: &[u8], direction: Direction, marks: &mut [u8]) -> Result<u32, Refusal> {
     // SAFETY: as for `sight_profile`.
-    refusal::answer(unsafe { vcp_mark_file(file.as_ptr(), file.len(), marks.as_mut_ptr(), marks.len()) })
+    refusal::answer(unsafe {
+        vcp_mark_file(file.as_ptr(), file.len(), direction.is_back(), marks.as_mut_ptr(), marks.len())
+    })
 }
 
 /// Reads a road file of either version and answers the distance in metres that its road needs for a purpose, at its own speed and
-/// on the grade that it is marked with. `vcp::required_distance` says what the purposes are.
+/// on the grade that it is marked with in a direction. `vcp::required_distance` says what the purposes are.
 ///
 /// # Errors
 /// Refused 1 to 13 and 25 as reading the file refuses it, then 7 if the purpose is not 0 to 5.
-pub fn file_distance(file: &[u8], purpose: u32) -> Result<u32, Refusal> {
+pub fn file_distance(file: &[u8], direction: Direction, purpose: u32) -> Result<u32, Refusal> {
     // SAFETY: as for `sight`.
-    refusal::answer(unsafe { vcp_file_distance(file.as_ptr(), file.len(), purpose) })
+    refusal::answer(unsafe { vcp_file_distance(file.as_ptr(), file.len(), direction.is_back(), purpose) })
 }
 
 /// Reads a road file as the listing, the preview and the van's marking do, and answers how many stations its road has.
@@ -408,4 +495,17 @@ pub fn list_road_file(file: &[u8], text: &mut [u8]) -> Result<u32, Refusal> {
 pub fn convert(file: &[u8], out: &mut [u8]) -> Result<u32, Refusal> {
     // SAFETY: as for `sight_profile`.
     refusal::answer(unsafe { vcp_convert(file.as_ptr(), file.len(), out.as_mut_ptr(), out.len()) })
+}
+
+/// Reads a road file and writes the file of its mirror, which is the road with the stations counted from the other end: it starts
+/// at the road's end height, the curves are in reverse order, each PVI is counted from the road's end, and all grades are in reverse
+/// order with the sign changed. The marks of either towards falling stations are those of the other towards rising ones, in reverse
+/// order. A buffer of as many bytes as the file has holds it. The call needs about 400 KiB of the thread's stack.
+///
+/// # Errors
+/// Refused 1 to 13 and 25 as reading the file refuses it, 9 if the road ends at a height that no road may start at, then 14 if the
+/// buffer is too short.
+pub fn mirror(file: &[u8], out: &mut [u8]) -> Result<u32, Refusal> {
+    // SAFETY: as for `sight_profile`.
+    refusal::answer(unsafe { vcp_mirror(file.as_ptr(), file.len(), out.as_mut_ptr(), out.len()) })
 }
