@@ -2,16 +2,23 @@
 
 use std::array;
 
-use picture::{preview, svg, Curve, Passing, Preview, Profile};
+use picture::{preview, svg, Curve, Direction, Lane, Passing, Preview, Profile};
 
 use crate::random::Random;
+use crate::reference::back;
+use crate::reference::distances::required_distance;
 use crate::reference::marks::{marks, runs};
 use crate::reference::passing::passing_marks;
 use crate::reference::road::{heights, marking_grade, required_distances, verdict, Road};
+use crate::reference::Answer;
 
-/// The grade that an accepted road is marked with, the distances for stopping and for the decision, the curves, the heights,
-/// the marks and the zones.
+/// Marks of heights by the second calculation, in a direction.
+type Marks = fn(u32, u32, i32, &[i32], &mut [u8]) -> Answer;
+
+/// The direction that an accepted road is looked along, the grade that it is marked with, the distances for stopping and for the
+/// decision, the curves, the heights, the marks and the zones.
 pub struct Drawn {
+    pub direction: Direction,
     pub grade: i32,
     pub distances: [u32; 2],
     pub curves: Vec<Curve>,
@@ -21,20 +28,33 @@ pub struct Drawn {
 }
 
 impl Drawn {
+    /// That of the lane towards rising stations.
     pub fn of(road: &Road) -> Drawn {
-        let (speed, purpose, grade) = (road.speed.into(), road.purpose.into(), marking_grade(road));
+        Drawn::along(Direction::Rising, marking_grade(road), required_distances(road), marks, road)
+    }
+
+    /// That of the lane coming back.
+    pub fn back(road: &Road) -> Drawn {
+        let grade = back::marking_grade(road);
+        let required = |purpose: u8| required_distance(road.speed.into(), purpose.into(), -grade);
+        let distances = [0, road.purpose].map(|purpose| required(purpose).expect("the road is accepted"));
+        Drawn::along(Direction::Falling, grade, distances, back::marks, road)
+    }
+
+    fn along(direction: Direction, grade: i32, distances: [u32; 2], marks: Marks, road: &Road) -> Drawn {
         let mut list = vec![0; road.length as usize + 1];
         heights(road, &mut list).expect("the road is accepted");
         let mut marked = vec![0; list.len()];
-        marks(speed, purpose, grade, &list, &mut marked).expect("the heights are marked");
+        marks(road.speed.into(), road.purpose.into(), grade, &list, &mut marked).expect("the heights are marked");
         let curves = road.curves.iter().map(|curve| Curve {
             pvi: curve.pvi,
             length: curve.length.into(),
             grade_out: curve.grade_out.into(),
         });
         Drawn {
+            direction,
             grade,
-            distances: required_distances(road),
+            distances,
             curves: curves.collect(),
             heights: list,
             zones: array::from_fn(|bit| runs(&marked, bit as u32)),
@@ -42,21 +62,32 @@ impl Drawn {
         }
     }
 
+    /// What is handed over of the lane.
+    fn lane(&self) -> Lane<'_> {
+        let [stopping, decision] = self.distances;
+        Lane { direction: self.direction, grade: self.grade, stopping, decision, zones: &self.zones }
+    }
+
     /// What is handed over of the road, and of passing.
     pub fn profile<'a>(&'a self, road: &Road, passing: Option<Passing<'a>>) -> Profile<'a> {
-        let [stopping, decision] = self.distances;
         Profile {
             speed: road.speed.into(),
             purpose: road.purpose.into(),
-            grade: self.grade,
-            stopping,
-            decision,
+            lane: self.lane(),
+            other_lane: None,
             first_grade: road.first_grade.into(),
             curves: &self.curves,
             heights: &self.heights,
-            zones: &self.zones,
             passing,
         }
+    }
+
+    /// The picture of the road with both lanes, of which the other is that of another drawing, and where a passing distance is given with
+    /// its rows.
+    pub fn picture_with(&self, other: &Drawn, road: &Road, distance: Option<u32>) -> String {
+        let zones = distance.map(|distance| (distance, self.passing_zones(distance)));
+        let passing = zones.as_ref().map(|(distance, zones)| Passing { distance: *distance, zones });
+        svg(&Profile { other_lane: Some(other.lane()), ..self.profile(road, passing) })
     }
 
     /// The picture of the road.

@@ -1,14 +1,14 @@
-//! The two engines of sight, asked as the second calculation is.
+//! The two engines of sight, asked as the second calculation is, in either direction.
 
-use exports::Refusal;
+use exports::{Direction, Refusal};
 
 use crate::bare;
 use crate::reference::sight::Look;
 use crate::reference::Answer;
 
 /// The proved function for one station, and that for the profile.
-type Sight = fn(&[i32], u32, exports::Look) -> Result<u32, Refusal>;
-type Profile = fn(&[i32], exports::Look, &mut [u16]) -> Result<u32, Refusal>;
+type Sight = fn(&[i32], Direction, u32, exports::Look) -> Result<u32, Refusal>;
+type Profile = fn(&[i32], Direction, exports::Look, &mut [u16]) -> Result<u32, Refusal>;
 
 /// An engine, by its name.
 pub struct Engine {
@@ -21,13 +21,16 @@ pub const QUICK: Engine = Engine { name: "quick", sight: exports::sight, profile
 pub const SLOW: Engine = Engine { name: "slow", sight: exports::slow_sight, profile: exports::slow_sight_profile };
 pub const ENGINES: [Engine; 2] = [QUICK, SLOW];
 
+/// Both directions.
+pub const DIRECTIONS: [Direction; 2] = [Direction::Rising, Direction::Falling];
+
 impl Engine {
-    pub fn sight(&self, heights: &[i32], station: u32, look: Look) -> Answer {
-        bare((self.sight)(heights, station, asked(look)))
+    pub fn sight(&self, heights: &[i32], direction: Direction, station: u32, look: Look) -> Answer {
+        bare((self.sight)(heights, direction, station, asked(look)))
     }
 
-    pub fn profile(&self, heights: &[i32], look: Look, sights: &mut [u16]) -> Answer {
-        bare((self.profile)(heights, asked(look), sights))
+    pub fn profile(&self, heights: &[i32], direction: Direction, look: Look, sights: &mut [u16]) -> Answer {
+        bare((self.profile)(heights, direction, asked(look), sights))
     }
 }
 

@@ -1,5 +1,6 @@
-//! docs/RULES.md, "What can be seen": how many sight lines the quick engine compares from a station.
+//! docs/RULES.md, "What can be seen": how many sight lines the quick engine compares from a station, towards rising stations.
 
+use exports::Direction::Rising;
 use sight_tests::bare;
 use sight_tests::engines::{asked, QUICK};
 use sight_tests::heights;
@@ -11,7 +12,7 @@ use sight_tests::tally::Tally;
 
 /// The comparisons that the quick engine counts from a station, which are those of the second calculation.
 fn compare(heights: &[i32], station: u32, look: Look) -> Answer {
-    let answer = bare(exports::sight_comparisons(heights, station, asked(look)));
+    let answer = bare(exports::sight_comparisons(heights, Rising, station, asked(look)));
     assert_eq!(answer, sight_comparisons(heights, station, look), "station {station}, {look:?}, {heights:?}");
     answer
 }
@@ -101,11 +102,11 @@ fn farthest_of_all() {
     let look = Look { eye: 50_000, object: 50_000, farthest: 8_000 };
     let level = vec![0; 100_001];
     assert_eq!(compare(&level[..8_001], 0, look), Ok(8_000));
-    assert_eq!(bare(exports::sight_comparisons(&level, 92_000, asked(look))), Ok(8_000));
+    assert_eq!(bare(exports::sight_comparisons(&level, Rising, 92_000, asked(look))), Ok(8_000));
     let mut hump = vec![0; 8_001];
     hump[1] = 1;
     let road = Look { eye: 1, ..look };
-    assert_eq!(QUICK.sight(&hump, 0, road), Ok(8_000));
+    assert_eq!(QUICK.sight(&hump, Rising, 0, road), Ok(8_000));
     assert_eq!(compare(&hump, 0, road), Ok(15_999));
 }
 
@@ -126,7 +127,7 @@ fn refused_as_sight_is() {
         let answer = compare(&heights, station, look);
         assert_eq!(
             answer.err(),
-            QUICK.sight(&heights, station, look).err(),
+            QUICK.sight(&heights, Rising, station, look).err(),
             "station {station}, {look:?}, {heights:?}"
         );
         answers.count(answer);

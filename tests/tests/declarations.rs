@@ -14,6 +14,7 @@ const EXPORTS: [&str; 2] = [
         include_str!("../../crates/preview_exports/src/lib.rt"),
         include_str!("../../crates/listing_exports/src/lib.rt"),
         include_str!("../../crates/conversion_exports/src/lib.rt"),
+        include_str!("../../crates/mirror_exports/src/lib.rt"),
     ),
     include_str!("../../rust/exports/src/lib.rs"),
 ];
@@ -26,7 +27,7 @@ struct Function {
     answer: String,
 }
 
-/// What is handed over, by its type; a number by its name too.
+/// What is handed over, by its type; a number, or a `bool`, by its name too.
 #[derive(Debug, PartialEq)]
 enum Argument {
     Number(String, String),
@@ -57,14 +58,14 @@ fn is_number(kind: &str) -> bool {
     ["u8", "u16", "u32", "u64", "usize", "i8", "i16", "i32", "i64", "isize"].contains(&kind)
 }
 
-/// What a Rattle parameter hands over: a number as it is, a slice as its pointer and then its length.
+/// What a Rattle parameter hands over: a number or a `bool` as it is, a slice of numbers as its pointer and then its length.
 fn handed_over([name, kind]: [&str; 2]) -> Vec<Argument> {
     let slice = |start: &str| kind.strip_prefix(start)?.strip_suffix(']').filter(|element| is_number(element));
     match (slice("&["), slice("&mut [")) {
         (Some(element), _) => vec![Argument::Pointer(format!("*const {element}")), Argument::Length],
         (_, Some(element)) => vec![Argument::Pointer(format!("*mut {element}")), Argument::Length],
-        _ if is_number(kind) => vec![Argument::Number(name.to_string(), kind.to_string())],
-        _ => panic!("{name}: {kind} is neither a number nor a slice of numbers"),
+        _ if is_number(kind) || kind == "bool" => vec![Argument::Number(name.to_string(), kind.to_string())],
+        _ => panic!("{name}: {kind} is neither a number nor a `bool` nor a slice of numbers"),
     }
 }
 
@@ -117,7 +118,7 @@ fn differing([rattle, rust]: [&str; 2]) -> Vec<String> {
 
 #[test]
 fn declarations_are_those_of_the_proved_crates() {
-    for (pair, many) in [(VAN, 3), (EXPORTS, 20)] {
+    for (pair, many) in [(VAN, 3), (EXPORTS, 22)] {
         assert_eq!(exported(pair[0]).len(), many);
         assert_eq!(differing(pair), [""; 0], "{:#?}\n{:#?}", exported(pair[0]), declared(pair[1]));
     }
@@ -126,7 +127,7 @@ fn declarations_are_those_of_the_proved_crates() {
 const RATTLE: &str = "\
 // pub extern \"C\" fn in_a_comment(a: u32) -> u32
 #[no_mangle]
-pub extern \"C\" fn sight(heights: &[i32], eye: u32, object: u32, sights: &mut [u16]) -> i64
+pub extern \"C\" fn sight(heights: &[i32], back: bool, eye: u32, object: u32, sights: &mut [u16]) -> i64
     ensures { ... }
 {
     helper(heights)
@@ -152,6 +153,7 @@ extern \"C\" {
     fn sight(
         list: *const i32,
         list_length: usize,
+        back: bool,
         eye: u32,
         object: u32,
         sights: *mut u16,
@@ -186,6 +188,10 @@ fn wrong_declarations_are_found() {
         ("        sights_length: usize,\n", ""),
         ("eye: u32,\n        object: u32", "object: u32,\n        eye: u32"),
         ("eye: u32", "eyes: u32"),
+        ("back: bool", "back: u8"),
+        ("back: bool", "forth: bool"),
+        ("        back: bool,\n", ""),
+        ("back: bool,\n        eye: u32", "eye: u32,\n        back: bool"),
         ("eye: u32", "eye: i32"),
         ("object: u32,\n", "object: u32,\n        farthest: u32,\n"),
         ("        object: u32,\n", ""),
@@ -208,7 +214,12 @@ fn wrong_declarations_are_found() {
 /// A change in Rattle is found too.
 #[test]
 fn changed_exports_are_found() {
-    for (from, to) in [("sights: &mut [u16]", "sights: &[u16]"), ("eye: u32", "eye: u64"), ("-> i64", "-> i32")] {
+    for (from, to) in [
+        ("sights: &mut [u16]", "sights: &[u16]"),
+        ("back: bool", "back: u8"),
+        ("eye: u32", "eye: u64"),
+        ("-> i64", "-> i32"),
+    ] {
         assert_eq!(differing([&changed(RATTLE, from, to), RUST]), ["sight"], "{from} is {to}");
     }
     for (from, to) in [("    drop: u32,\n", ""), ("drop: u32", "fall: u32"), ("sight: u8", "sight: u16")] {
@@ -217,7 +228,7 @@ fn changed_exports_are_found() {
 }
 
 #[test]
-#[should_panic(expected = "neither a number nor a slice of numbers")]
+#[should_panic(expected = "neither a number nor a `bool` nor a slice of numbers")]
 fn a_parameter_of_another_kind_is_found() {
     differing([&changed(RATTLE, "sight: u8", "sight: Crest"), RUST]);
 }

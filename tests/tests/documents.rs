@@ -119,7 +119,7 @@ fn theorems_are_held_in_place() {
             found += 1;
         }
     }
-    assert!(found >= 16, "{found} theorems");
+    assert!(found >= 19, "{found} theorems");
 }
 
 /// Each `crate::function` that these documents name is a public one of that crate.

@@ -1,9 +1,10 @@
-//! Over all inputs, refusals included, both engines of sight give the same. The tests of sight compare each with the second
-//! calculation; here they are compared with each other, with any faults in what is asked, and on long roads.
+//! Over all inputs, refusals included, both engines of sight give the same, in either direction. The tests of sight compare each with
+//! the second calculation; here they are compared with each other, with any faults in what is asked, and on long roads.
 
 use std::time::{Duration, Instant};
 
-use sight_tests::engines::ENGINES;
+use exports::Direction;
+use sight_tests::engines::{DIRECTIONS, ENGINES};
 use sight_tests::heights;
 use sight_tests::lent;
 use sight_tests::pages::text;
@@ -14,16 +15,23 @@ use sight_tests::roads;
 use sight_tests::tally::Tally;
 
 /// The sight from one station, which is that of both.
-fn compare_sight(heights: &[i32], station: u32, look: Look) -> Answer {
-    let [quick, slow] = ENGINES.map(|engine| engine.sight(heights, station, look));
-    assert_eq!(slow, quick, "station {station}, {look:?}, {heights:?}");
+fn compare_sight(heights: &[i32], direction: Direction, station: u32, look: Look) -> Answer {
+    let [quick, slow] = ENGINES.map(|engine| engine.sight(heights, direction, station, look));
+    assert_eq!(slow, quick, "{direction:?}, station {station}, {look:?}, {heights:?}");
     quick
 }
 
 /// Both fill `places` numbers with the same sights, and the rest stays.
-fn compare_profile(random: &mut Random, heights: &[i32], look: Look, places: usize) -> (Answer, Vec<u16>) {
-    let [quick, slow] = ENGINES.map(|engine| move |list: &mut [u16]| engine.profile(heights, look, list));
-    lent::compare(&random.list(places, |bits| bits as u16), slow, quick, format_args!("{look:?}, {heights:?}"))
+fn compare_profile(
+    random: &mut Random,
+    heights: &[i32],
+    direction: Direction,
+    look: Look,
+    places: usize,
+) -> (Answer, Vec<u16>) {
+    let [quick, slow] = ENGINES.map(|engine| move |list: &mut [u16]| engine.profile(heights, direction, look, list));
+    let before = random.list(places, |bits| bits as u16);
+    lent::compare(&before, slow, quick, format_args!("{direction:?}, {look:?}, {heights:?}"))
 }
 
 /// A short list of heights of any kind; now and then it is empty.
@@ -51,9 +59,10 @@ fn whatever_is_asked() {
         };
         let beyond = [stations, stations + 1, random.bits() as u32];
         let station = if random.once_in(8) { random.one_of(&beyond) } else { random.within(0..=stations) };
-        of_station.count(compare_sight(&heights, station, look));
+        let direction = random.one_of(&DIRECTIONS);
+        of_station.count(compare_sight(&heights, direction, station, look));
         let places = random.one_of(&[0, stations.saturating_sub(1), stations, stations, stations + 3]);
-        of_profile.count(compare_profile(&mut random, &heights, look, places as usize).0);
+        of_profile.count(compare_profile(&mut random, &heights, direction, look, places as usize).0);
     }
     assert!(of_station.numbers() > 5_000, "{} sights", of_station.numbers());
     assert!(of_profile.numbers() > 5_000, "{} profiles", of_profile.numbers());
@@ -70,7 +79,8 @@ fn whatever_is_asked() {
 fn long_roads() {
     let mut random = Random::new(131);
     let (mut hidden, mut far) = (0, 0);
-    for _ in 0..10 {
+    for round in 0..10 {
+        let direction = DIRECTIONS[round % 2];
         let road = roads::steeper(roads::any_long_road(&mut random));
         let heights = heights::of_road(&road);
         let look = |random: &mut Random, farthest: u32| Look {
@@ -79,13 +89,16 @@ fn long_roads() {
             farthest,
         };
         let near = look(&mut random, 40);
-        let (answer, sights) = compare_profile(&mut random, &heights, near, heights.len());
+        let (answer, sights) = compare_profile(&mut random, &heights, direction, near, heights.len());
         assert_eq!(answer, Ok(road.length + 1));
-        let to_the_end = (0..=road.length).rev();
-        hidden += to_the_end.zip(sights).filter(|&(left, sight)| u32::from(sight) < near.farthest.min(left)).count();
+        let left = (0..=road.length).map(|station| match direction {
+            Direction::Rising => road.length - station,
+            Direction::Falling => station,
+        });
+        hidden += left.zip(sights).filter(|&(left, sight)| u32::from(sight) < near.farthest.min(left)).count();
         for _ in 0..2 {
             let look = look(&mut random, 8_000);
-            let answer = compare_sight(&heights, random.within(0..=road.length), look);
+            let answer = compare_sight(&heights, direction, random.within(0..=road.length), look);
             far += u32::from(answer.is_ok_and(|sight| sight > 500));
         }
     }
@@ -108,11 +121,14 @@ fn least_time(calls: usize, answer: u32, ask: impl Fn() -> Answer) -> Duration {
 fn slow_engine_takes_its_time() {
     let level = vec![0; 8_001];
     let look = Look { eye: 1, object: 1, farthest: 8_000 };
-    let [quick, slow] = ENGINES.map(|engine| least_time(5, 8_000, || engine.sight(&level, 0, look)));
-    assert!(slow > 20 * quick, "sight: slow {slow:?}, quick {quick:?}");
     let stretch = &level[..600];
-    let [quick, slow] = ENGINES.map(|engine| least_time(5, 600, || engine.profile(stretch, look, &mut [0; 600])));
-    assert!(slow > 20 * quick, "profile: slow {slow:?}, quick {quick:?}");
+    for (direction, station) in DIRECTIONS.into_iter().zip([0, 8_000]) {
+        let times = ENGINES.map(|engine| least_time(5, 8_000, || engine.sight(&level, direction, station, look)));
+        assert!(times[1] > 20 * times[0], "{direction:?}, sight by the quick and the slow engine: {times:?}");
+        let times =
+            ENGINES.map(|engine| least_time(5, 600, || engine.profile(stretch, direction, look, &mut [0; 600])));
+        assert!(times[1] > 20 * times[0], "{direction:?}, profile by the quick and the slow engine: {times:?}");
+    }
 }
 
 /// A proof does not tell one engine from the other, for their contracts are the same. That the slow one is another, and is what its

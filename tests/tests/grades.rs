@@ -1,6 +1,7 @@
-//! docs/RULES.md, "Distances a driver needs": the grade that a road is marked with, and the distances that it requires; and how
-//! many stations it has for an operation that takes short roads alone.
+//! docs/RULES.md, "Distances a driver needs": the grade that a road is marked with towards rising stations, and the distances that it
+//! requires; and how many stations it has for an operation that takes short roads alone.
 
+use exports::Direction::Rising;
 use sight_tests::bare;
 use sight_tests::heights;
 use sight_tests::random::Random;
@@ -13,10 +14,14 @@ use sight_tests::tally::Tally;
 
 /// The program's answers for a file are those of the second calculation. Answers the grade.
 fn compare(file: &[u8]) -> Result<i32, u32> {
-    let answer = exports::file_grade(file).map_err(|refusal| refusal.number());
+    let answer = exports::file_grade(file, Rising).map_err(|refusal| refusal.number());
     assert_eq!(answer, file_grade(file), "{file:02X?}");
     for purpose in 0..=6 {
-        assert_eq!(bare(exports::file_distance(file, purpose)), file_distance(file, purpose), "{purpose}: {file:02X?}");
+        assert_eq!(
+            bare(exports::file_distance(file, Rising, purpose)),
+            file_distance(file, purpose),
+            "{purpose}: {file:02X?}"
+        );
     }
     assert_eq!(bare(exports::short_stations(file)), short_stations(file), "{file:02X?}");
     answer
@@ -34,8 +39,8 @@ fn road(first_grade: i16, grades: &[i16]) -> Road {
 fn examples() {
     for (file, stations) in [(&EXAMPLE[..], Ok(301)), (&EXAMPLE_VERSION_2, Ok(301)), (&LONG_EXAMPLE, Err(8))] {
         assert_eq!(compare(file), Ok(-600));
-        assert_eq!([0, 1].map(|purpose| exports::file_distance(file, purpose)), [Ok(50), Ok(60)]);
-        assert_eq!([6, u32::MAX].map(|purpose| bare(exports::file_distance(file, purpose))), [Err(7); 2]);
+        assert_eq!([0, 1].map(|purpose| exports::file_distance(file, Rising, purpose)), [Ok(50), Ok(60)]);
+        assert_eq!([6, u32::MAX].map(|purpose| bare(exports::file_distance(file, Rising, purpose))), [Err(7); 2]);
         assert_eq!(bare(exports::short_stations(file)), stations);
     }
 }
@@ -46,7 +51,7 @@ fn examples() {
 fn long_roads() {
     for roads::LongFile { file, short, read } in roads::long_files(&mut Random::new(50)) {
         assert_eq!(compare(&file).err(), read, "{file:02X?}");
-        assert_eq!(bare(exports::file_distance(&file, 0)).err(), read, "{file:02X?}");
+        assert_eq!(bare(exports::file_distance(&file, Rising, 0)).err(), read, "{file:02X?}");
         assert_eq!(bare(exports::short_stations(&file)), Err(short), "{file:02X?}");
     }
 }

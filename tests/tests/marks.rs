@@ -1,5 +1,6 @@
 //! docs/RULES.md, "Marks and zones": the marking of a road file, by the van and by the library.
 
+use exports::Direction::Rising;
 use sight_tests::bare;
 use sight_tests::lent;
 use sight_tests::quick;
@@ -28,7 +29,7 @@ fn compare_library(
     places: usize,
     second: impl FnOnce(&mut [u8]) -> Answer,
 ) -> (Answer, Vec<u8>) {
-    let proved = |list: &mut [u8]| bare(exports::mark_file(file, list));
+    let proved = |list: &mut [u8]| bare(exports::mark_file(file, Rising, list));
     lent::compare(&random.list(places, |bits| bits as u8), proved, second, format_args!("{file:02X?}"))
 }
 

@@ -1,5 +1,6 @@
-//! docs/RULES.md, "Marks and zones": the marks of lent heights.
+//! docs/RULES.md, "Marks and zones": the marks of lent heights, towards rising stations.
 
+use exports::Direction::Rising;
 use sight_tests::bare;
 use sight_tests::heights;
 use sight_tests::lent;
@@ -26,7 +27,7 @@ const SLOW: Drive = Drive { speed: 20, purpose: 1, grade: 0 };
 /// The program marks `places` bytes just as the second calculation does, and the rest stays.
 fn compare(random: &mut Random, drive: Drive, heights: &[i32], places: usize) -> (Answer, Vec<u8>) {
     let Drive { speed, purpose, grade } = drive;
-    let proved = |list: &mut [u8]| bare(exports::marks(speed, purpose, grade, heights, list));
+    let proved = |list: &mut [u8]| bare(exports::marks(speed, purpose, grade, heights, Rising, list));
     let second = |list: &mut [u8]| marks(speed, purpose, grade, heights, list);
     let before = random.list(places, |bits| bits as u8);
     lent::compare(&before, proved, second, format_args!("{drive:?}, {heights:?}"))

@@ -594,5 +594,8 @@ fn example_of_document_01() {
         assert_eq!(compare_rewriting(&mut random, &SHARP_BREAK, places), Err(25));
         assert_eq!(bare(vcp::mark_road_file(&SHARP_BREAK, &mut vec![0; places])), Err(25));
     }
-    assert_eq!(exports::file_grade(&SHARP_BREAK).map_err(|refusal| refusal.number()), Err(25));
+    assert_eq!(
+        exports::file_grade(&SHARP_BREAK, exports::Direction::Rising).map_err(|refusal| refusal.number()),
+        Err(25)
+    );
 }

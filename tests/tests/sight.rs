@@ -1,8 +1,9 @@
-//! docs/RULES.md, "What can be seen": sight by either engine over lent heights, over those of roads of either version, and on the
-//! exact parabolas and straights.
+//! docs/RULES.md, "What can be seen": sight towards rising stations by either engine over lent heights, over those of roads of either
+//! version, and on the exact parabolas and straights.
 
 use std::ops::RangeInclusive;
 
+use exports::Direction::Rising;
 use sight_tests::engines::{ENGINES, QUICK};
 use sight_tests::heights;
 use sight_tests::lent;
@@ -29,7 +30,7 @@ fn any_look(random: &mut Random, farthest: u32) -> Look {
 /// Either engine gives this for the sight from a station.
 fn expect_sight(heights: &[i32], station: u32, look: Look, answer: Answer) {
     for engine in ENGINES {
-        let own = engine.sight(heights, station, look);
+        let own = engine.sight(heights, Rising, station, look);
         assert_eq!(own, answer, "{} engine, station {station}, {look:?}, {heights:?}", engine.name);
     }
 }
@@ -46,7 +47,7 @@ fn compare_profile(random: &mut Random, heights: &[i32], look: Look, places: usi
     let before = random.list(places, |bits| bits as u16);
     let second = |list: &mut [u16]| sight_profile(heights, look, list);
     let [compared, _] = ENGINES.map(|engine| {
-        let proved = |list: &mut [u16]| engine.profile(heights, look, list);
+        let proved = |list: &mut [u16]| engine.profile(heights, Rising, look, list);
         lent::compare(&before, proved, second, format_args!("{} engine, {look:?}, {heights:?}", engine.name))
     });
     compared
@@ -200,7 +201,7 @@ fn random_runs_of_short_crests_far_out() {
         let heights = heights::of_road(&road);
         let look = if random.once_in(2) { look(EYE, OBJECT, 80) } else { any_look(&mut random, 100) };
         let mut sights = vec![0; heights.len()];
-        assert_eq!(QUICK.profile(&heights, look, &mut sights), Ok(road.length + 1));
+        assert_eq!(QUICK.profile(&heights, Rising, look, &mut sights), Ok(road.length + 1));
         for station in about_the_curves(&road, 80) {
             let there = u32::from(sights[station]);
             assert_eq!(compare_sight(&heights, station as u32, look), Ok(there), "{road:?}");
@@ -320,7 +321,7 @@ impl Accuracy {
     /// of a millimetre lower, and with each as much higher.
     fn expect(&mut self, road: &Road, look: Look, stations: RangeInclusive<usize>) {
         let (heights, mut sights) = (heights::of_road(road), vec![0; road.length as usize + 1]);
-        assert_eq!(QUICK.profile(&heights, look, &mut sights), Ok(road.length + 1));
+        assert_eq!(QUICK.profile(&heights, Rising, look, &mut sights), Ok(road.length + 1));
         let exact = exact_heights(road);
         let lower = Look { eye: look.eye - 1, object: look.object - 1, ..look };
         let higher = Look { eye: look.eye + 1, object: look.object + 1, ..look };

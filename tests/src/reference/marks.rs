@@ -31,10 +31,18 @@ pub(super) fn finding(heights: &[i64], i: usize, look: Look) -> Finding {
     }
 }
 
+/// The look of a driver who has to see so far.
+pub(super) fn driver(required: u32) -> Look {
+    Look { eye: EYE, object: OBJECT, farthest: required }
+}
+
 /// A station's byte, from the distances required for stopping and for the decision.
 pub fn mark(heights: &[i64], i: usize, stopping: u32, decision: u32) -> u8 {
-    let look = |required: u32| Look { eye: EYE, object: OBJECT, farthest: required };
-    let [stopping, decision] = [stopping, decision].map(|required| finding(heights, i, look(required)));
+    byte([stopping, decision].map(|required| finding(heights, i, driver(required))))
+}
+
+/// The byte of a station with these verdicts for stopping and for the decision.
+pub(super) fn byte([stopping, decision]: [Finding; 2]) -> u8 {
     let bits = [
         stopping == Finding::Lacking,
         decision == Finding::Lacking,
@@ -45,16 +53,24 @@ pub fn mark(heights: &[i64], i: usize, stopping: u32, decision: u32) -> u8 {
     bits.iter().enumerate().map(|(bit, &set)| u8::from(set) << bit).sum()
 }
 
-pub fn marks(speed: u32, purpose: u32, grade: i32, heights: &[i32], list: &mut [u8]) -> Answer {
+/// Refusals 6, 7, 10 and 19 of marks.
+pub(super) fn marks_verdict(speed: u32, purpose: u32, grade: i32, heights: &[i32]) -> Result<(), u32> {
     if !(20..=130).contains(&speed) {
         return Err(6);
     }
     if !(1..=5).contains(&purpose) {
         return Err(7);
     }
+    if !(-1_500..=1_500).contains(&grade) {
+        return Err(10);
+    }
+    list_verdict(heights.len())
+}
+
+pub fn marks(speed: u32, purpose: u32, grade: i32, heights: &[i32], list: &mut [u8]) -> Answer {
+    marks_verdict(speed, purpose, grade, heights)?;
     let stopping = required_distance(speed, 0, grade)?;
     let decision = required_distance(speed, purpose, grade)?;
-    list_verdict(heights.len())?;
     fill(heights, list, |heights, i| mark(heights, i, stopping, decision))
 }
 

@@ -1,6 +1,7 @@
 //! The second calculation: the rules, one file for each section of docs/RULES.md, written from their text in exact whole
 //! numbers and with no thought for speed.
 
+pub mod back;
 pub mod conversion;
 pub mod crest;
 pub mod distances;
@@ -9,6 +10,7 @@ pub mod fraction;
 pub mod lengths;
 pub mod listing;
 pub mod marks;
+pub mod mirror;
 pub mod passing;
 pub mod preview;
 pub mod road;

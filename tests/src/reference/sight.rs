@@ -79,7 +79,7 @@ pub(super) fn farthest_verdict(farthest: u32) -> Result<(), u32> {
 }
 
 /// Refusals 17 and 21.
-fn look_verdict(look: Look) -> Result<(), u32> {
+pub(super) fn look_verdict(look: Look) -> Result<(), u32> {
     if !(1..=50_000).contains(&look.eye) || !(1..=50_000).contains(&look.object) {
         return Err(17);
     }
@@ -100,7 +100,12 @@ pub(super) fn fill<T>(heights: &[i32], list: &mut [T], said_of: impl Fn(&[i64], 
 }
 
 /// What is said of one station, which is on the list.
-fn of_station(heights: &[i32], station: u32, look: Look, said: impl Fn(&[i64], Look, usize) -> usize) -> Answer {
+pub(super) fn of_station(
+    heights: &[i32],
+    station: u32,
+    look: Look,
+    said: impl Fn(&[i64], Look, usize) -> usize,
+) -> Answer {
     list_verdict(heights.len())?;
     if station as usize >= heights.len() {
         return Err(20);

@@ -1,8 +1,8 @@
 //! `make bench`: the proved functions beside the same calculations in safe Rust and beside the literal rule, on the same
-//! inputs in one run, the library's marking of long roads beside that of shorter ones, and the quick engine of sight beside the
-//! slow one. The two sides take turns round by round, so that the machine's load falls on both alike. Times are those on the
-//! processor: what other programs took meanwhile does not count. Then the command's listing of many roads beside their marking,
-//! by the clock on the wall, and last the stack that each operation takes.
+//! inputs in one run, the library's marking of long roads beside that of shorter ones and of the lane coming back beside that
+//! of a mirror, and the quick engine of sight beside the slow one. The two sides take turns round by round, so that the machine's
+//! load falls on both alike. Times are those on the processor: what other programs took meanwhile does not count. Then the
+//! command's listing of many roads beside their marking, by the clock on the wall, and last the stack that each operation takes.
 
 use std::fmt::Debug;
 use std::fs;
@@ -13,6 +13,7 @@ use std::process::{self, Command, Stdio};
 use std::time::Instant;
 use std::{env, error};
 
+use exports::Direction::{Falling, Rising};
 use sight_tests::bare;
 use sight_tests::engines::{asked, ENGINES, QUICK, SLOW};
 use sight_tests::heights;
@@ -22,6 +23,7 @@ use sight_tests::reference::crest::Crest;
 use sight_tests::reference::distances::required_distance;
 use sight_tests::reference::file::bytes;
 use sight_tests::reference::marks::{EYE, OBJECT};
+use sight_tests::reference::mirror::mirrored;
 use sight_tests::reference::road::{marking_grade, Curve, Road};
 use sight_tests::reference::sight::Look;
 use sight_tests::reference::Answer;
@@ -139,7 +141,12 @@ fn by_the_van(file: &[u8], marks: &mut [u8]) -> Answer {
 
 /// The library's, which takes roads of any length.
 fn by_the_library(file: &[u8], marks: &mut [u8]) -> Answer {
-    bare(exports::mark_file(file, marks))
+    bare(exports::mark_file(file, Rising, marks))
+}
+
+/// The same of the lane coming back.
+fn by_the_library_back(file: &[u8], marks: &mut [u8]) -> Answer {
+    bare(exports::mark_file(file, Falling, marks))
 }
 
 /// The file of a road and its marks.
@@ -235,6 +242,11 @@ fn crests(length: u32) -> Road {
     curved(length, 1_440, |place| 1_440 - 90 * (place + 1))
 }
 
+/// A road with 16 short crests and 16 short sags.
+fn waves(length: u32) -> Road {
+    curved(length, 400, |place| if place % 2 == 0 { -400 } else { 400 })
+}
+
 /// A road of 300 m with one crest.
 fn one_crest() -> Road {
     let crest = Curve { pvi: 150, length: 60, grade_out: -400 };
@@ -246,7 +258,7 @@ fn roads() -> Vec<(&'static str, Road)> {
     vec![
         ("8,000 m level", level(SHORT, 130)),
         ("8,000 m, 32 crests", crests(SHORT)),
-        ("8,000 m, 16 crests and 16 sags", curved(SHORT, 400, |place| if place % 2 == 0 { -400 } else { 400 })),
+        ("8,000 m, 16 crests and 16 sags", waves(SHORT)),
         ("300 m, one crest", one_crest()),
     ]
 }
@@ -296,8 +308,8 @@ fn first(length: u32, road: &Road) -> Road {
     Road { length, curves: curves.copied().collect(), ..road.clone() }
 }
 
-/// The library's marking: of roads of 100,000 m beside their first 8,000 m, and of a short road beside the van's marking, whose
-/// list of heights is shorter.
+/// The library's marking: of roads of 100,000 m beside their first 8,000 m, of a short road beside the van's marking, whose list of
+/// heights is shorter, and of the lane coming back beside the mirror's marking, which gives the same bytes in reverse order.
 fn long_markings() {
     heading("marking", "library");
     for (name, road) in [("100,000 m level", level(LONG, 130)), ("100,000 m, 32 crests", crests(LONG))] {
@@ -309,6 +321,9 @@ fn long_markings() {
     }
     let times = markings(&one_crest(), by_the_library, by_the_van);
     row("300 m, one crest", "van", &times, [times.ours / times.other, times.ratio], "");
+    let road = waves(LONG);
+    let times = roads_beside((&road, by_the_library_back), (&mirrored(&road), by_the_library));
+    row("100,000 m, the lane coming back", "its mirror", &times, [times.ours / times.other, times.ratio], "");
 }
 
 /// How the engines of sight look.
@@ -321,16 +336,16 @@ fn profiles(road: &Road) -> Times {
     let (heights, look) = (heights::of_road(road), engines_look());
     let [mut sights, mut slow_sights] = ENGINES.map(|engine| {
         let mut sights = vec![0; heights.len()];
-        assert_eq!(engine.profile(&heights, look, &mut sights), Ok(road.length + 1), "{road:?}");
+        assert_eq!(engine.profile(&heights, Rising, look, &mut sights), Ok(road.length + 1), "{road:?}");
         sights
     });
     assert!(sights == slow_sights, "{road:?}");
     side_by_side(
         &mut || {
-            let _ = black_box(QUICK.profile(black_box(&heights), look, black_box(&mut sights)));
+            let _ = black_box(QUICK.profile(black_box(&heights), Rising, look, black_box(&mut sights)));
         },
         &mut || {
-            let _ = black_box(SLOW.profile(black_box(&heights), look, black_box(&mut slow_sights)));
+            let _ = black_box(SLOW.profile(black_box(&heights), Rising, look, black_box(&mut slow_sights)));
         },
     )
 }
@@ -340,8 +355,9 @@ fn compared_for_each(road: &Road) -> f64 {
     let (heights, look) = (heights::of_road(road), engines_look());
     let (mut compared, mut tried) = (0, 0);
     for station in 0..=road.length {
-        let sight = QUICK.sight(&heights, station, look).expect("the station is on the road");
-        compared += exports::sight_comparisons(&heights, station, asked(look)).expect("the station is on the road");
+        let sight = QUICK.sight(&heights, Rising, station, look).expect("the station is on the road");
+        compared +=
+            exports::sight_comparisons(&heights, Rising, station, asked(look)).expect("the station is on the road");
         tried += (sight + 1).min(look.farthest).min(road.length - station);
     }
     f64::from(compared) / f64::from(tried)

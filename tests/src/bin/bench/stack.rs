@@ -9,6 +9,7 @@ use std::os::unix::fs::FileExt;
 use std::process::{Command, Stdio};
 use std::thread;
 
+use exports::Direction::{Falling, Rising};
 use exports::{Look, Manoeuvre, Refusal};
 use sight_tests::lister;
 use sight_tests::reference::file::bytes;
@@ -113,15 +114,18 @@ fn on_lists(heights: &[i32]) -> Vec<Named<'_>> {
     let mut ends = vec![0; exports::MOST_ENDS];
     let [mut marks, mut passing, every] = [(); 3].map(|_| vec![1; heights.len()]);
     vec![
-        ("sight from one station", Box::new(move || answered(exports::sight(heights, 0, look)))),
-        ("sight profile", Box::new(move || answered(exports::sight_profile(heights, look, &mut sights)))),
-        ("slow sight from one station", Box::new(move || answered(exports::slow_sight(heights, 0, near)))),
+        ("sight from one station", Box::new(move || answered(exports::sight(heights, Rising, 0, look)))),
+        ("sight profile", Box::new(move || answered(exports::sight_profile(heights, Rising, look, &mut sights)))),
+        ("slow sight from one station", Box::new(move || answered(exports::slow_sight(heights, Rising, 0, near)))),
         (
             "slow sight profile",
-            Box::new(move || answered(exports::slow_sight_profile(heights, near, &mut slow_sights))),
+            Box::new(move || answered(exports::slow_sight_profile(heights, Rising, near, &mut slow_sights))),
         ),
-        ("comparisons from one station", Box::new(move || answered(exports::sight_comparisons(heights, 0, look)))),
-        ("marks of heights", Box::new(move || answered(exports::marks(130, 5, -1_440, heights, &mut marks)))),
+        (
+            "comparisons from one station",
+            Box::new(move || answered(exports::sight_comparisons(heights, Rising, 0, look))),
+        ),
+        ("marks of heights", Box::new(move || answered(exports::marks(130, 5, -1_440, heights, Rising, &mut marks)))),
         ("passing marks", Box::new(move || answered(exports::passing_marks(heights, 525, &mut passing)))),
         ("zones", Box::new(move || answered(exports::zones(&every, 0, &mut ends)))),
     ]
@@ -129,20 +133,23 @@ fn on_lists(heights: &[i32]) -> Vec<Named<'_>> {
 
 /// The operations on a road file.
 fn on_files<'a>(short: &'a [u8], long: &'a [u8]) -> Vec<Named<'a>> {
-    let [mut written, mut converted, mut changed] = [(); 3].map(|_| vec![0; exports::ENOUGH_BYTES]);
+    let [mut written, mut converted, mut mirrored, mut changed] = [(); 4].map(|_| vec![0; exports::ENOUGH_BYTES]);
     let [mut van, mut before, mut after] = [(); 3].map(|_| vec![0; exports::SHORT_STATIONS]);
     let (mut heights, mut marks) = (vec![0; exports::LONG_STATIONS], vec![0; exports::LONG_STATIONS]);
+    let mut back = marks.clone();
     let mut text = vec![0; exports::GREATEST_LISTING];
     vec![
         ("a file written again", Box::new(move || answered(exports::rewrite(long, &mut written)))),
         ("a file in the other version", Box::new(move || answered(exports::convert(short, &mut converted)))),
+        ("the mirror of a file", Box::new(move || answered(exports::mirror(long, &mut mirrored)))),
         ("a file with another length", Box::new(move || answered(exports::change_length(long, 0, 80, &mut changed)))),
-        ("the grade of a file", Box::new(|| answered(exports::file_grade(long)))),
-        ("a distance for a file's road", Box::new(|| answered(exports::file_distance(long, 2)))),
+        ("the grade of a file", Box::new(|| answered(exports::file_grade(long, Rising)))),
+        ("a distance for a file's road", Box::new(|| answered(exports::file_distance(long, Rising, 2)))),
         ("the stations of a short file", Box::new(|| answered(exports::short_stations(short)))),
         ("heights of a file", Box::new(move || answered(exports::file_heights(long, &mut heights)))),
         ("marking, by the van", Box::new(move || answered(vcp::mark_road_file(short, &mut van)))),
-        ("marking, by the library", Box::new(move || answered(exports::mark_file(long, &mut marks)))),
+        ("marking, by the library", Box::new(move || answered(exports::mark_file(long, Rising, &mut marks)))),
+        ("the same of the lane coming back", Box::new(move || answered(exports::mark_file(long, Falling, &mut back)))),
         ("preview", Box::new(move || answered(exports::preview(short, 0, 80, &mut before, &mut after)))),
         ("listing", Box::new(move || answered(exports::list_road_file(short, &mut text)))),
     ]
