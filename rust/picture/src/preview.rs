@@ -30,7 +30,7 @@ const KEY: &str = r#"<path class="old line" d="M28000 9000H32000"/><text x="3260
 /// road as it is where that differs, the shape of the curve as it is, and a pair of rows, before and after, for each letter.
 pub fn preview(preview: &Preview) -> String {
     let Preview { before, after, .. } = preview;
-    let sheets = Sheet::stretches(&[before.heights, after.heights], after.rows().count(), PAIR_STEP);
+    let sheets = Sheet::stretches(&[before.heights, after.heights], after.strips(), PAIR_STEP);
     Picture { profile: after, preview: Some(preview), sheets }.to_string()
 }
 

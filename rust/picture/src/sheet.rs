@@ -1,7 +1,8 @@
 //! The geometry of a picture: where stations and heights lie on the sheet, and the steps of its axes.
 //!
 //! Coordinates are whole hundredths of a pixel, x to the right and y down, on a sheet that is 1,600 pixels wide, and
-//! 900 high where it has five strips of zones, 1,080 where it has five pairs of them. Stations are metres, and heights h-units.
+//! 900 high where it has five strips of zones, 1,208 where it has those of both lanes, and 1,080 where it has five pairs of
+//! them. Stations are metres, and heights h-units.
 //!
 //! A road over 8,000 m is drawn in stretches, one below the other, each with a plot and strips: as few as can be with no more than
 //! 8,000 m in each, and all but the last equally long, a multiple of 500 m. They have one scale; which heights a plot shows goes
@@ -41,6 +42,9 @@ pub const STRIP_STEP: i64 = 4_400;
 pub const PAIR_STEP: i64 = 8_000;
 pub const BARS: i64 = 1_500;
 pub const BAR_HEIGHT: i64 = 1_800;
+
+/// How far below the road the line of the other lane is drawn, where both are.
+pub const OTHER_LANE: i64 = 1_500;
 
 // How far the stations' lines and the stretch reach below the last strip.
 const LINES_BELOW: i64 = 100;
@@ -170,10 +174,14 @@ impl Sheet {
         self.along(2 * i64::from(first) - 1)
     }
 
+    /// x of the right edge of a zone.
+    pub fn zone_right(&self, last: u32) -> i64 {
+        self.along(2 * i64::from(last) + 1)
+    }
+
     /// The width of a zone from its first station to its last.
     pub fn zone_width(&self, [first, last]: [u32; 2]) -> i64 {
-        let right = self.along(2 * i64::from(last) + 1);
-        (right - self.zone_left(first)).max(LEAST_ZONE)
+        (self.zone_right(last) - self.zone_left(first)).max(LEAST_ZONE)
     }
 
     /// x so many half metres along the road. A road of no length is at the left edge.

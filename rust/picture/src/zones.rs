@@ -1,24 +1,25 @@
 //! The zones: along the road, and in the strips below the plot.
 
 use std::fmt::{self, Formatter};
+use std::iter;
 
-use crate::sheet::{BARS, BAR_HEIGHT, HEIGHT, LEFT, TOP};
+use crate::sheet::{BARS, BAR_HEIGHT, HEIGHT, LEFT, OTHER_LANE, SHEET_WIDTH, TOP};
 use crate::stretch::Stretch;
-use crate::{MEANINGS, PASSING_MEANINGS};
+use crate::{Direction, Lane, MEANINGS, PASSING_MEANINGS};
 
 /// The classes and letters of the strips, in the order of a profile's zones, and behind them those of passing.
 const LETTERS: [[&str; 2]; 7] = [["S", "S"], ["D", "D"], ["R", "R"], ["ns", "s"], ["nd", "d"], ["P", "P"], ["np", "p"]];
 
 /// Where the bars of a strip begin, and where the stations' numbers of its zones stand.
 #[derive(Clone, Copy)]
-struct Lane {
+struct Track {
     bars: i64,
     labels: i64,
 }
 
 /// A strip with its labels above, and the lower one of a pair, with its labels below.
-const LANE: Lane = Lane { bars: BARS, labels: BARS - 300 };
-const LOWER_LANE: Lane = Lane { bars: BARS + BAR_HEIGHT + 200, labels: BARS + 2 * BAR_HEIGHT + 1_350 };
+const TRACK: Track = Track { bars: BARS, labels: BARS - 300 };
+const LOWER_TRACK: Track = Track { bars: BARS + BAR_HEIGHT + 200, labels: BARS + 2 * BAR_HEIGHT + 1_350 };
 
 /// The labels of zones are a twentieth of the plot apart, or as much more as longer numbers need.
 const LABELS: i64 = 20;
@@ -31,32 +32,55 @@ const PARTS: [[&str; 2]; 5] =
     [["ns", "road ns"], ["judged", "road"], ["D", "road D"], ["R", "road R"], ["S", "road S"]];
 
 impl Stretch<'_> {
-    /// A tint over the plot where stopping sight is lacking.
+    /// A tint over the plot where stopping sight is lacking: where both lanes lack it, it is twice as strong.
     pub fn tint(&self, out: &mut Formatter) -> fmt::Result {
-        let [lacking, ..] = self.profile.zones;
-        writeln!(out, r#"<g class="tint">"#)?;
-        self.bars(out, &self.seen(lacking), TOP, HEIGHT)?;
-        writeln!(out, "</g>")
+        for Lane { zones: [lacking, ..], .. } in self.profile.lanes() {
+            writeln!(out, r#"<g class="tint">"#)?;
+            self.bars(out, &self.seen(lacking), TOP, HEIGHT)?;
+            writeln!(out, "</g>")?;
+        }
+        Ok(())
     }
 
-    /// The road: dark where stopping is judged, dashed where it is not, and thick along the zones S, R and D. Of these D is the
-    /// lowest: it shows where the decision is judged and stopping is not.
+    /// The road, and where both lanes are drawn a second line for the other one.
     pub fn road(&self, out: &mut Formatter) -> fmt::Result {
-        let [lacking, decision_lacking, reduced, not_judged, _] = self.profile.zones;
-        let right = not_judged.first().map_or(self.sheet.right(), |&[first, _]| self.sheet.zone_left(first));
-        let (judged, foot) = (self.name("judged"), self.sheet.stretch_foot());
-        writeln!(out, r#"<clipPath id="{judged}"><path d="M0 0H{right}V{foot}H0Z"/></clipPath>"#)?;
+        self.lane_line(out, &self.profile.lane, "", "")?;
+        let Some(other) = &self.profile.other_lane else { return Ok(()) };
+        self.lane_line(out, other, "other-", &format!(r#" transform="translate(0 {OTHER_LANE})""#))
+    }
+
+    /// A lane along the road: dark where stopping is judged, dashed where it is not, and thick along the zones S, R and D. Of these D is
+    /// the lowest: it shows where the decision is judged and stopping is not. Its parts are named behind a word, and it may be moved.
+    fn lane_line(&self, out: &mut Formatter, lane: &Lane, word: &str, moved: &str) -> fmt::Result {
+        let name = |part: &str| self.name(&format!("{word}{part}"));
+        let [lacking, decision_lacking, reduced, not_judged, _] = lane.zones;
+        let ([left, right], foot) = (self.judged(lane), self.sheet.stretch_foot());
+        let judged = name("judged");
+        writeln!(out, r#"<clipPath id="{judged}"><path d="M{left} 0H{right}V{foot}H{left}Z"/></clipPath>"#)?;
         for (part, zones) in [("S", lacking), ("R", reduced), ("D", decision_lacking), ("ns", not_judged)] {
-            writeln!(out, r#"<clipPath id="{}">"#, self.name(part))?;
+            writeln!(out, r#"<clipPath id="{}">"#, name(part))?;
             self.bars(out, &self.seen(zones), TOP, HEIGHT)?;
             writeln!(out, "</clipPath>")?;
         }
         let profile = self.name("profile");
         for [part, class] in PARTS {
-            let part = self.name(part);
-            writeln!(out, r##"<use href="#{profile}" class="{class}" clip-path="url(#{part})"/>"##)?;
+            let part = name(part);
+            writeln!(out, r##"<use href="#{profile}" class="{class}" clip-path="url(#{part})"{moved}/>"##)?;
         }
         Ok(())
+    }
+
+    /// The edges of what is judged of a lane: what is not lies where its drivers leave the road.
+    fn judged(&self, lane: &Lane) -> [i64; 2] {
+        let [.., not_judged, _] = lane.zones;
+        match lane.direction {
+            Direction::Rising => {
+                [0, not_judged.first().map_or(self.sheet.right(), |&[first, _]| self.sheet.zone_left(first))]
+            }
+            Direction::Falling => {
+                [not_judged.last().map_or(LEFT, |&[_, last]| self.sheet.zone_right(last)), SHEET_WIDTH]
+            }
+        }
     }
 
     /// The zones that are to be seen in the stretch.
@@ -73,17 +97,46 @@ impl Stretch<'_> {
         Ok(())
     }
 
-    /// A strip for each list of zones, in a group of its class; of a preview a pair of them.
+    /// The strips of the lane that is drawn; of both lanes a set for each, below a heading.
     pub fn strips(&self, out: &mut Formatter) -> fmt::Result {
-        let meanings = MEANINGS.into_iter().chain(PASSING_MEANINGS);
-        let rows = LETTERS.into_iter().zip(meanings).zip(self.profile.rows());
-        let mut before = self.preview.iter().flat_map(|preview| preview.before.rows());
-        for ((([class, letter], meaning), zones), top) in rows.zip(self.sheet.strip_tops()) {
+        let (own, mut tops) = (self.profile.rows(), self.sheet.strip_tops());
+        let before = self.preview.iter().flat_map(|preview| preview.before.rows());
+        let Some(other) = &self.profile.other_lane else { return self.rows(out, own, before, &mut tops) };
+        self.opening(out, &self.profile.lane, &mut tops)?;
+        self.rows(out, own, before, &mut tops)?;
+        writeln!(out, "</g>")?;
+        self.opening(out, other, &mut tops)?;
+        self.rows(out, other.zones.iter(), iter::empty(), &mut tops)?;
+        writeln!(out, "</g>")
+    }
+
+    /// Opens the set of a lane's strips, with its heading.
+    fn opening(&self, out: &mut Formatter, lane: &Lane, tops: &mut impl Iterator<Item = i64>) -> fmt::Result {
+        let class = match lane.direction {
+            Direction::Rising => "rising",
+            Direction::Falling => "falling",
+        };
+        let line = tops.next().unwrap_or_default() + TRACK.bars + 1_350;
+        writeln!(out, r#"<g class="{class}">"#)?;
+        write!(out, r#"<text class="sub letter" x="1500" y="{line}">Sight in the direction of "#)?;
+        writeln!(out, "{}, {}</text>", lane.direction.towards(), lane.needs())
+    }
+
+    /// A strip for each list of zones, in a group of its class; where there is a list before it, a pair of them.
+    fn rows<'a>(
+        &self,
+        out: &mut Formatter,
+        own: impl Iterator<Item = &'a Vec<[u32; 2]>>,
+        mut before: impl Iterator<Item = &'a Vec<[u32; 2]>>,
+        tops: &mut impl Iterator<Item = i64>,
+    ) -> fmt::Result {
+        let rows = LETTERS.into_iter().zip(MEANINGS.into_iter().chain(PASSING_MEANINGS)).zip(own);
+        for ((([class, letter], meaning), zones), top) in rows.zip(tops) {
             let name = format!(r#"<tspan class="letter">{letter}</tspan>&#160; {meaning}"#);
             writeln!(out, r#"<g class="{class}" transform="translate(0 {top})">"#)?;
             let zones = &self.seen(zones);
             match before.next() {
-                None => self.strip(out, &name, zones, &self.labelled([zones; 2])[0], LANE)?,
+                None => self.strip(out, &name, zones, &self.labelled([zones; 2])[0], TRACK)?,
                 Some(before) => self.pair(out, &name, [&self.seen(before), zones])?,
             }
             writeln!(out, "</g>")?;
@@ -93,12 +146,12 @@ impl Stretch<'_> {
 
     /// Two strips under one name: the zones of the road as it is, and below them those of the changed road.
     fn pair(&self, out: &mut Formatter, name: &str, [before, after]: [&[[u32; 2]]; 2]) -> fmt::Result {
-        writeln!(out, r#"<text x="1500" y="{}">{name}</text>"#, LANE.labels)?;
+        writeln!(out, r#"<text x="1500" y="{}">{name}</text>"#, TRACK.labels)?;
         let [labelled_before, labelled_after] = self.labelled([before, after]);
         writeln!(out, r#"<g class="before">"#)?;
-        self.strip(out, "before", before, &labelled_before, LANE)?;
+        self.strip(out, "before", before, &labelled_before, TRACK)?;
         writeln!(out, "</g>")?;
-        self.strip(out, "after", after, &labelled_after, LOWER_LANE)
+        self.strip(out, "after", after, &labelled_after, LOWER_TRACK)
     }
 
     /// A strip: its name, a bar for each zone, their stations and their number.
@@ -108,9 +161,9 @@ impl Stretch<'_> {
         name: &str,
         zones: &[[u32; 2]],
         labelled: &[Labelled],
-        lane: Lane,
+        track: Track,
     ) -> fmt::Result {
-        let Lane { bars, labels } = lane;
+        let Track { bars, labels } = track;
         let (foot, line, right) = (bars + BAR_HEIGHT, bars + 1_350, self.sheet.right());
         writeln!(out, r#"<path class="lane" d="M{LEFT} {bars}H{right}V{foot}H{LEFT}Z"/>"#)?;
         write!(out, r#"<path d="M1500 {bars}H3100V{foot}H1500Z"/>"#)?;

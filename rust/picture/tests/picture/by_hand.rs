@@ -2,7 +2,7 @@
 
 use std::array;
 
-use picture::{svg, Curve, Passing, Profile};
+use picture::{svg, Curve, Direction, Lane, Passing, Profile};
 use sight_tests::random::Random;
 
 use crate::elements::{stretches, Element, Elements, Outline};
@@ -12,18 +12,8 @@ pub static NO_ZONES: [Vec<[u32; 2]>; 5] = [const { Vec::new() }; 5];
 
 /// A profile with these heights, curves and zones. If it has 1,281 heights, its stations are drawn a pixel apart.
 pub fn profile<'a>(heights: &'a [i32], curves: &'a [Curve], zones: &'a [Vec<[u32; 2]>; 5]) -> Profile<'a> {
-    Profile {
-        speed: 20,
-        purpose: 1,
-        grade: 0,
-        stopping: 20,
-        decision: 25,
-        first_grade: 0,
-        curves,
-        heights,
-        zones,
-        passing: None,
-    }
+    let lane = Lane { direction: Direction::Rising, grade: 0, stopping: 20, decision: 25, zones };
+    Profile { speed: 20, purpose: 1, lane, other_lane: None, first_grade: 0, curves, heights, passing: None }
 }
 
 /// A filled hump over a crest, an open bowl over a sag, a triangle at a break, and nothing where the grade stays.
@@ -205,7 +195,8 @@ fn grades() {
         (i32::MIN, "&#8722;21474836.48"),
         (i32::MAX, "21474836.47"),
     ] {
-        let picture = svg(&Profile { grade, ..profile(&[0; 2], &[], &NO_ZONES) });
+        let level = profile(&[0; 2], &[], &NO_ZONES);
+        let picture = svg(&Profile { lane: Lane { grade, ..level.lane }, ..level });
         assert!(
             picture.contains(&format!(">20 km/h, marked with grade {percent} %: stopping sight 20 m, decision")),
             "{grade}"
@@ -270,12 +261,19 @@ fn absurd_numbers() {
             random.list(places, |bits| [bits as u32, (bits >> 32) as u32 >> (bits >> 59)])
         };
         let (zones, passing_zones) = (array::from_fn(&mut any_zones), array::from_fn(&mut any_zones));
-        let text = svg(&Profile {
-            speed: u32::MAX,
-            purpose: u32::MAX,
+        let lane = |random: &mut Random, direction| Lane {
+            direction,
             grade: random.one_of(&[i32::MIN, -1, i32::MAX]),
             stopping: 0,
             decision: u32::MAX,
+            zones: &zones,
+        };
+        let directions = [Direction::Rising, Direction::Falling];
+        let text = svg(&Profile {
+            speed: u32::MAX,
+            purpose: u32::MAX,
+            lane: lane(&mut random, directions[heights.len() % 2]),
+            other_lane: random.once_in(2).then(|| lane(&mut random, directions[heights.len() / 2 % 2])),
             first_grade: i32::MIN,
             passing: random.once_in(2).then_some(Passing { distance: u32::MAX, zones: &passing_zones }),
             ..profile(&heights, &curves, &zones)

@@ -4,6 +4,7 @@
 use std::fs;
 use std::path::Path;
 
+use picture::Direction;
 use sight_tests::drawn::Drawn;
 use sight_tests::random::Random;
 use sight_tests::reference::file::read;
@@ -15,6 +16,7 @@ use crate::rules::{Plot, HEIGHT, LEFT, TOP};
 
 mod by_hand;
 mod elements;
+mod lanes;
 mod page;
 mod passing;
 mod preview;
@@ -34,13 +36,17 @@ const STRIPS: [[&str; 3]; 7] = [
 // ---- the comparison
 /// Compares a road's picture with the second calculation, and answers how many zones it has.
 fn compare(road: &Road) -> usize {
-    let drawn = Drawn::of(road);
+    compare_drawn(road, &Drawn::of(road))
+}
+
+/// The same of either lane.
+fn compare_drawn(road: &Road, drawn: &Drawn) -> usize {
     let plots = Plot::all(&[&drawn.heights]);
     let text = drawn.picture(road);
-    compare_headings(road, &drawn, &plots[0], &text, "");
+    compare_headings(road, drawn, &plots[0], &text, "");
     for (plot, all) in plots.iter().zip(compare_stretches(&text, plots.len(), 90_000)) {
-        compare_profile(&drawn, plot, &all);
-        compare_zones(&drawn, plot, 90_000, &all);
+        compare_profile(drawn, plot, &all);
+        compare_zones(drawn, plot, 90_000, &all);
         compare_strips(&drawn.zones, plot, &all);
         compare_axes(plot, 90_000, &all);
         assert_eq!(all.outlines()[3..], plot.curves(road, &drawn.heights, None), "{road:?}");
@@ -69,17 +75,42 @@ fn compare_stretches(text: &str, many: usize, height: i64) -> Vec<Elements> {
     stretches
 }
 
+/// A grade in percent.
+fn percent(grade: i32) -> String {
+    let minus = if grade < 0 { "&#8722;" } else { "" };
+    format!("{minus}{}.{:02} %", grade.abs() / 100, grade.abs() % 100)
+}
+
+/// The stations that a driver goes towards, with an arrow to the right or to the left.
+fn towards(direction: Direction) -> &'static str {
+    match direction {
+        Direction::Rising => "rising stations &#8594;",
+        Direction::Falling => "falling stations &#8592;",
+    }
+}
+
+/// The grade that a lane is marked with, and for the lane coming back, of which it has the other sign, whether that is down or up.
+fn driven(drawn: &Drawn) -> String {
+    let word = match (drawn.direction, drawn.grade) {
+        (Direction::Rising, _) | (_, 0) => "",
+        (Direction::Falling, grade) if grade > 0 => " (downhill)",
+        (Direction::Falling, _) => " (uphill)",
+    };
+    format!("{}{word}", percent(drawn.grade))
+}
+
 /// The title, which a change stands behind, and the line below it.
 fn compare_headings(road: &Road, drawn: &Drawn, plot: &Plot, text: &str, change: &str) {
     let (length, speed, purpose) = (road.length, road.speed, road.purpose);
     let ([stopping, decision], exaggeration) = (drawn.distances, plot.exaggeration);
-    let minus = if drawn.grade < 0 { "&#8722;" } else { "" };
-    let grade = format!("{minus}{}.{:02} %", drawn.grade.abs() / 100, drawn.grade.abs() % 100);
+    let grade = driven(drawn);
+    let towards = towards(drawn.direction);
     let distances = format!("stopping sight {stopping} m, decision sight {decision} m (purpose {purpose});");
     for words in [
         format!("<title>Sight along the road, {length} m{change}</title>"),
         format!(">Sight along the road, {length} m{change}</text>"),
         format!(">{speed} km/h, marked with grade {grade}: {distances}"),
+        format!("; sight in the direction of {towards}; vertical exaggeration "),
         format!("vertical exaggeration <tspan class=\"letter\">{exaggeration} : 1</tspan>"),
     ] {
         assert_eq!(text.matches(&words).count(), 1, "{words} of {road:?}");
@@ -96,38 +127,58 @@ fn compare_profile(drawn: &Drawn, plot: &Plot, all: &Elements) {
 
 /// The tint of the plot and the parts that are cut out of the road, on a stretch that is so high.
 fn compare_zones(drawn: &Drawn, plot: &Plot, height: i64, all: &Elements) {
-    let [lacking, decision_lacking, reduced, not_judged, _] = &drawn.zones;
-    for (attribute, value, zones) in [
-        ("class", "tint".to_string(), lacking),
-        ("id", plot.name("S"), lacking),
-        ("id", plot.name("R"), reduced),
-        ("id", plot.name("D"), decision_lacking),
-        ("id", plot.name("ns"), not_judged),
-    ] {
-        let group = all.only(attribute, &value).0;
-        assert_eq!(all.rectangles(group), plot.zones(zones, TOP, HEIGHT), "{value}");
-    }
+    let tint = all.only("class", "tint").0;
+    assert_eq!(all.rectangles(tint), plot.zones(&drawn.zones[0], TOP, HEIGHT));
     let profile = format!("#{}", plot.name("profile"));
-    let line = all.with("href", &profile).map(|part| (part.get("class"), part.get("clip-path").to_string()));
+    let line: Vec<&Element> = all.with("href", &profile).collect();
+    compare_line(drawn, plot, height, all, "", &line);
+    assert!(line.iter().all(|part| part.get("transform").is_empty()));
+}
+
+/// The parts of a lane's line, whose names begin with a word.
+fn compare_line(drawn: &Drawn, plot: &Plot, height: i64, all: &Elements, word: &str, line: &[&Element]) {
+    let [lacking, decision_lacking, reduced, not_judged, _] = &drawn.zones;
+    let name = |part: &str| plot.name(&format!("{word}{part}"));
+    for (part, zones) in [("S", lacking), ("R", reduced), ("D", decision_lacking), ("ns", not_judged)] {
+        let group = all.only("id", &name(part)).0;
+        assert_eq!(all.rectangles(group), plot.zones(zones, TOP, HEIGHT), "{part}");
+    }
+    let line = line.iter().map(|part| (part.get("class"), part.get("clip-path").to_string()));
     let parts = [("road ns", "ns"), ("road", "judged"), ("road D", "D"), ("road R", "R"), ("road S", "S")];
-    let parts = parts.map(|(class, part)| (class, format!("url(#{})", plot.name(part))));
+    let parts = parts.map(|(class, part)| (class, format!("url(#{})", name(part))));
     assert_eq!(line.collect::<Vec<_>>(), parts);
-    let judged = all.only("id", &plot.name("judged")).0;
+    let judged = all.only("id", &name("judged")).0;
     let paths: Vec<_> = all.inside(judged).map(Element::path).collect();
-    let right = plot.across(2 * i64::from(not_judged[0][0]) - 1);
-    assert_eq!(paths, [("MHVHZ".to_string(), vec![0, 0, right, height, 0])]);
+    let [first, last] = not_judged[0].map(i64::from);
+    let [left, right] = match drawn.direction {
+        Direction::Rising => [0, plot.across(2 * first - 1)],
+        Direction::Falling => [plot.across(2 * last + 1), 160_000],
+    };
+    assert_eq!(paths, [("MHVHZ".to_string(), vec![left, 0, right, height, left])]);
 }
 
 /// A strip for each of these lists of zones, and no other.
 fn compare_strips(lists: &[Vec<[u32; 2]>], plot: &Plot, all: &Elements) {
     assert_eq!(all.with("class", "lane").count(), lists.len());
-    for (place, (zones, [class, letter, meaning])) in lists.iter().zip(STRIPS).enumerate() {
-        let (strip, group) = all.only("class", class);
-        assert_eq!(group.get("transform"), format!("translate(0 {})", 66_500 + 4_400 * place), "{class}");
-        let words = format!("&#160; {meaning}");
-        assert_eq!(all.words(strip).take(2).collect::<Vec<_>>(), [&words, letter], "{class}");
-        compare_strip(zones, &plot.zone_labels(zones), [1_500, 1_200], plot, all, strip);
+    for ((zones, strip), top) in lists.iter().zip(STRIPS).zip((66_500..).step_by(4_400)) {
+        let group = all.only("class", strip[0]).0;
+        compare_row(zones, strip, top, plot, all, group);
     }
+}
+
+/// A strip of its class, letter and meaning in a group, from its upper edge on.
+fn compare_row(
+    zones: &[[u32; 2]],
+    [class, letter, meaning]: [&str; 3],
+    top: i64,
+    plot: &Plot,
+    all: &Elements,
+    group: usize,
+) {
+    assert_eq!(all.0[group].get("transform"), format!("translate(0 {top})"), "{class}");
+    let words = format!("&#160; {meaning}");
+    assert_eq!(all.words(group).take(2).collect::<Vec<_>>(), [&words, letter], "{class}");
+    compare_strip(zones, &plot.zone_labels(zones), [1_500, 1_200], plot, all, group);
 }
 
 /// A strip in a group: its bars from their upper edge on, the labels at a height, and the number of zones.

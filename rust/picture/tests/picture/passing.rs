@@ -1,6 +1,6 @@
 //! Pictures with the rows of passing: the rows themselves, and what else differs from the picture without them.
 
-use picture::{svg, Passing, Profile};
+use picture::{svg, Direction, Lane, Passing, Profile};
 use sight_tests::drawn::Drawn;
 use sight_tests::random::Random;
 use sight_tests::reference::file::read;
@@ -150,13 +150,17 @@ fn the_longest_headings() {
     let all = Elements::of(&svg(&Profile {
         speed: 130,
         purpose: 5,
-        grade: -1_500,
-        stopping: 1_000,
-        decision: 1_000,
+        lane: Lane {
+            direction: Direction::Rising,
+            grade: -1_500,
+            stopping: 1_000,
+            decision: 1_000,
+            zones: &[vec![], vec![], vec![], vec![], vec![]],
+        },
+        other_lane: None,
         first_grade: 0,
         curves: &[],
         heights: &vec![0; 100_001],
-        zones: &[vec![], vec![], vec![], vec![], vec![]],
         passing,
     }));
     let (place, line) = all.only("class", "sub");
