@@ -3,11 +3,12 @@
 use std::io::{self, IsTerminal};
 use std::path::Path;
 
-use exports::{Manoeuvre, Refusal, ENOUGH_BYTES, EYE_HEIGHT, GREATEST_LISTING, OBJECT_HEIGHT};
+use exports::{Direction, Manoeuvre, Refusal, ENOUGH_BYTES, EYE_HEIGHT, GREATEST_LISTING, OBJECT_HEIGHT};
+use picture::Profile;
 use roadtext::Fault;
 
 use crate::arguments::{Given, ACCELERATION, GRADE, HEIGHT, TENTHS, WHOLE};
-use crate::drawing::Drawing;
+use crate::drawing::{self, Drawing};
 use crate::judgement::{Judgement, Passing};
 use crate::output::{self, Output};
 use crate::survey::Survey;
@@ -67,6 +68,15 @@ pub fn write_answer(given: &Given, output: &mut Output, bytes: &[u8]) -> Result<
     Ok(ANSWERED)
 }
 
+/// The direction that is asked for: that of rising stations, or of the lane coming back.
+pub fn direction(given: &Given) -> Direction {
+    if given.is_there("--back") {
+        Direction::Falling
+    } else {
+        Direction::Rising
+    }
+}
+
 /// `vcp list`.
 pub fn list(given: &Given, output: &mut Output) -> Result<u8, Trouble> {
     let mut text = vec![0; GREATEST_LISTING];
@@ -80,9 +90,9 @@ pub fn list(given: &Given, output: &mut Output) -> Result<u8, Trouble> {
 
 /// `vcp report`.
 pub fn report(given: &Given, output: &mut Output) -> Result<u8, Trouble> {
-    let mut first = true;
+    let (direction, mut first) = (direction(given), true);
     for_each_file(given, output, |path, output| {
-        let judgement = Judgement::of_road(&input::road_file(path)?).map_err(Trouble::refused(path))?;
+        let judgement = Judgement::of_road(&input::road_file(path)?, direction).map_err(Trouble::refused(path))?;
         let between = if first { "" } else { "\n" };
         first = false;
         output.write(format!("{between}{}", report::report(&shown(path), &judgement, 0)).as_bytes())
@@ -98,10 +108,11 @@ fn grade(given: &Given) -> Result<i32, Trouble> {
 pub fn check(given: &Given, output: &mut Output) -> Result<u8, Trouble> {
     let speed = given.needed("--speed", |text| WHOLE.read(text))?;
     let purpose = given.needed("--purpose", purpose::read)?;
-    let grade = grade(given)?;
+    let (grade, direction) = (grade(given)?, direction(given));
     let path = given.file();
     let survey = Survey::read(path, input::open(path)?)?;
-    let judgement = Judgement::of_heights(speed, purpose, grade, &survey.heights).map_err(Trouble::refused(path))?;
+    let judgement = Judgement::of_heights(speed, purpose, grade, &survey.heights, direction);
+    let judgement = judgement.map_err(Trouble::refused(path))?;
     output.write(report::report(&shown(path), &judgement, survey.first).as_bytes()).map(|()| ANSWERED)
 }
 
@@ -113,17 +124,37 @@ pub fn passing(given: &Given, output: &mut Output) -> Result<u8, Trouble> {
     output.write(report::passing(&shown(path), &passing).as_bytes()).map(|()| ANSWERED)
 }
 
-/// The picture of a road file, with rows for passing where a passing distance is given.
-fn picture_of(file: &[u8], distance: Option<u32>) -> Result<String, Refusal> {
-    let judgement = Judgement::of_road(file)?;
+/// The lanes that are to be drawn: one, and where both are the other. Passing is marked towards rising stations alone.
+fn lanes(given: &Given) -> Result<(Direction, Option<Direction>), Trouble> {
+    let (back, both) = (given.is_there("--back"), given.is_there("--both-lanes"));
+    if back && both {
+        return Err(given.wrong("--back does not go with --both-lanes"));
+    }
+    if back && given.is_there("--passing") {
+        return Err(given.wrong("--passing does not go with --back: it is for rising stations"));
+    }
+    Ok((direction(given), both.then_some(Direction::Falling)))
+}
+
+/// The picture of a road file with one lane or both, and with rows for passing where a passing distance is given.
+fn picture_of(
+    file: &[u8],
+    (lane, other_lane): (Direction, Option<Direction>),
+    distance: Option<u32>,
+) -> Result<String, Refusal> {
+    let judgement = Judgement::of_road(file, lane)?;
+    let other = other_lane.map(|lane| Judgement::of_road(file, lane)).transpose()?;
     let passing = distance.map(|distance| Passing::of_road(file, distance)).transpose()?;
-    Ok(picture::svg(&Drawing::of_road(file, &judgement)?.profile(passing.as_ref())))
+    let drawing = Drawing::of_road(file, &judgement)?;
+    let other_lane = other.as_ref().map(drawing::lane);
+    Ok(picture::svg(&Profile { other_lane, ..drawing.profile(passing.as_ref()) }))
 }
 
 /// `vcp plot`.
 pub fn plot(given: &Given, output: &mut Output) -> Result<u8, Trouble> {
     let distance = given.option("--passing", |text| WHOLE.read(text))?;
-    let picture = picture_of(&input::road_file(given.file())?, distance).map_err(Trouble::refused(given.file()))?;
+    let (lanes, path) = (lanes(given)?, given.file());
+    let picture = picture_of(&input::road_file(path)?, lanes, distance).map_err(Trouble::refused(path))?;
     write_answer(given, output, picture.as_bytes())
 }
 

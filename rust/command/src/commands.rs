@@ -69,6 +69,7 @@ const EYE: Choice = choice("--eye", "M", "height of the eye above the road, in m
 const OBJECT: Choice = choice("--object", "M", "height of the object, in m (0.60)");
 const SPEED: Choice = needed("--speed", "KMH", "the speed in km/h");
 const SIGHT: Choice = choice("--sight", "M", "the sight distance (the stopping distance)");
+const BACK: Choice = flag("--back", "for the lane coming back, towards falling stations");
 const GRADE: Choice = choice("--grade", "PERCENT", "the road's grade, uphill positive, as -6.00 (0.00)");
 
 pub const COMMANDS: [Command; 16] = [
@@ -86,7 +87,8 @@ station.
   s  stopping is not judged: the road ends too soon
   d  the decision is not judged
 The listing of a refused file is one line, 'refused' and the number. A road over
-8000 m is refused 8 here; 'vcp report' takes it.",
+8000 m is refused 8 here; 'vcp report' takes it. All of it is for drivers
+towards rising stations; 'vcp report --back' is for the others.",
         operands: FILES,
         options: &[],
         run: answers::list,
@@ -101,9 +103,13 @@ judged, lacking and not judged; every zone in words, with its length. There is a
 station each metre, and it stands for the metre around it: a zone of one station
 is 1 m long. The share is of the judged stations. A station is not judged where
 the road ends before the distance does. In the reduced decision zone stopping
-sight is there and decision sight is not.",
+sight is there and decision sight is not.
+With --back it is for drivers towards falling stations: the grade is the
+greatest of the road's grades, or 0 if none is positive, which they drive down,
+and what is not judged is at the road's start. Stations and the sign of the
+grade stay those of the road as it is measured.",
         operands: FILES,
-        options: &[],
+        options: &[BACK],
         run: answers::report,
     },
     Command {
@@ -118,8 +124,9 @@ sight is there and decision sight is not.",
         name: "sight",
         prints: "the available sight from each station, as CSV",
         details: "\
-Stations and sight are in m, in the direction of rising stations. Sight ends
-where the object is hidden first, at the farthest distance, or with the road.
+Stations and sight are in m, in the direction of rising stations, with --back in
+that of falling ones. The table begins with --from either way. Sight ends where
+the object is hidden first, at the farthest distance, or with the road.
 The slow engine gives the same sights in a way that anyone can follow: for each
 object station every station between is looked at, with nothing remembered. Its
 time grows with the square of the sight: all of a level road of 8 km takes it
@@ -134,6 +141,7 @@ it says so, and the status is 2.",
             choice("--farthest", "M", "how far is looked at most (8000)"),
             FROM,
             TO,
+            BACK,
             flag("--slow", "by the slow engine"),
             flag("--both", "by both engines"),
             OUTPUT,
@@ -148,9 +156,11 @@ HEIGHTS is CSV as 'vcp heights' writes it, with or without the header: on each
 line a station and its height in m, with at most four decimals, one line a
 metre, at most 100001 of them. The first station may be any. A gap, a station
 twice or a line that cannot be read is an error with its line. Without --grade
-the road is taken as level: give the grade that 'vcp report' names for it.",
+the road is taken as level: give the grade that 'vcp report' names for it.
+With --back give the grade of 'vcp report --back': a grade is that of rising
+stations either way, and whoever comes back drives down what rises.",
         operands: Operands { names: &["HEIGHTS"], more: false },
-        options: &[SPEED, needed("--purpose", "PURPOSE", "the decision, A to E or 1 to 5"), GRADE],
+        options: &[SPEED, needed("--purpose", "PURPOSE", "the decision, A to E or 1 to 5"), GRADE, BACK],
         run: answers::check,
     },
     Command {
@@ -163,9 +173,19 @@ is negative. Above the curves stand their places, counted from 0, where there is
 room. Where a passing distance is given there are two rows more: where passing
 sight is lacking, and where passing is not judged. A road over 8000 m is drawn
 in stretches of at most 8000 m, one below the other; a zone or a curve that goes
-on in the next stretch stands in both.",
+on in the next stretch stands in both.
+With --back it is the picture of the lane coming back, on the greatest of the
+road's grades, or 0 if none is positive. With --both-lanes there is a set of
+rows for each lane, and below the road a second line for the lane coming back.
+Passing is for drivers towards rising stations: its rows are in their set.
+Neither --passing nor --both-lanes goes with --back.",
         operands: ONE_FILE,
-        options: &[choice("--passing", "M", "the passing distance ('vcp passing-distance')"), OUTPUT],
+        options: &[
+            choice("--passing", "M", "the passing distance ('vcp passing-distance')"),
+            BACK,
+            flag("--both-lanes", "both lanes, each with its rows"),
+            OUTPUT,
+        ],
         run: answers::plot,
     },
     Command {
@@ -184,7 +204,8 @@ counted from 0, in the order of 'vcp text': these are the numbers above the
 curves in the picture of 'vcp plot'. The road itself is not touched: no file is
 written unless -o names one for the changed road, and that may be neither FILE
 nor - nor a name in .svg. A refusal of the changed road names it as 'FILE with
-curve ...'. A road over 8000 m is refused 8 here.",
+curve ...'. A road over 8000 m is refused 8 here. All of it is for drivers
+towards rising stations.",
         operands: ONE_FILE,
         options: &[
             needed("--curve", "K", "the curve's place, counted from 0"),

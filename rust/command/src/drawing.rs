@@ -1,7 +1,7 @@
 //! What a picture of a road is drawn from.
 
 use exports::Refusal;
-use picture::{Curve, Profile};
+use picture::{Curve, Direction, Lane, Profile};
 
 use crate::judgement::{Judgement, Passing};
 use crate::tables;
@@ -32,20 +32,28 @@ impl Drawing<'_> {
         })
     }
 
-    /// What is handed over of it, and of passing.
+    /// What is handed over of it, with the one lane that is judged, and of passing.
     pub fn profile<'a>(&'a self, passing: Option<&'a Passing>) -> Profile<'a> {
         let Drawing { first_grade, ref curves, ref heights, judgement } = *self;
         Profile {
             speed: judgement.speed,
             purpose: judgement.purpose,
-            grade: judgement.grade,
-            stopping: judgement.stopping,
-            decision: judgement.decision,
+            lane: lane(judgement),
+            other_lane: None,
             first_grade,
             curves,
             heights,
-            zones: &judgement.zones,
             passing: passing.map(|Passing { distance, zones, .. }| picture::Passing { distance: *distance, zones }),
         }
     }
+}
+
+/// What is handed over of the lane that is judged.
+pub fn lane(judgement: &Judgement) -> Lane<'_> {
+    let Judgement { direction, grade, stopping, decision, ref zones, .. } = *judgement;
+    let direction = match direction {
+        exports::Direction::Rising => Direction::Rising,
+        exports::Direction::Falling => Direction::Falling,
+    };
+    Lane { direction, grade, stopping, decision, zones }
 }

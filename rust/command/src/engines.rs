@@ -3,23 +3,23 @@
 use std::iter::StepBy;
 use std::ops::RangeInclusive;
 
-use exports::{Look, Refusal};
+use exports::{Direction, Look, Refusal};
 
 use crate::trouble::Trouble;
 
 /// The stations that are asked for, one or more.
 pub type Stations = StepBy<RangeInclusive<usize>>;
 
-/// The quick engine's sights from these stations, out of those from all.
-pub fn quick(heights: &[i32], look: Look, stations: Stations) -> Result<Vec<u32>, Refusal> {
+/// The quick engine's sights from these stations in a direction, out of those from all.
+pub fn quick(heights: &[i32], direction: Direction, look: Look, stations: Stations) -> Result<Vec<u32>, Refusal> {
     let mut sights = vec![0; heights.len()];
-    exports::sight_profile(heights, look, &mut sights)?;
+    exports::sight_profile(heights, direction, look, &mut sights)?;
     Ok(stations.map(|station| sights[station].into()).collect())
 }
 
 /// The slow engine's. It is asked for no other station: those of a whole road may take it minutes.
-pub fn slow(heights: &[i32], look: Look, stations: Stations) -> Result<Vec<u32>, Refusal> {
-    stations.map(|station| exports::slow_sight(heights, station as u32, look)).collect()
+pub fn slow(heights: &[i32], direction: Direction, look: Look, stations: Stations) -> Result<Vec<u32>, Refusal> {
+    stations.map(|station| exports::slow_sight(heights, direction, station as u32, look)).collect()
 }
 
 /// What the quick and the slow engine see from a station.
@@ -30,9 +30,9 @@ pub struct Seen {
 }
 
 /// The same from each of these stations. The first refusal of either engine is that of both.
-pub fn both(heights: &[i32], look: Look, stations: Stations) -> Result<Vec<Seen>, Refusal> {
-    let quick = quick(heights, look, stations.clone())?;
-    let slow = slow(heights, look, stations.clone())?;
+pub fn both(heights: &[i32], direction: Direction, look: Look, stations: Stations) -> Result<Vec<Seen>, Refusal> {
+    let quick = quick(heights, direction, look, stations.clone())?;
+    let slow = slow(heights, direction, look, stations.clone())?;
     let sights = quick.into_iter().zip(slow);
     Ok(stations.zip(sights).map(|(station, (quick, slow))| Seen { station, quick, slow }).collect())
 }

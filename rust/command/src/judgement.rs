@@ -1,6 +1,8 @@
 //! What the proved functions say of a road file, or of heights.
 
-use exports::{Refusal, LONG_STATIONS, MOST_ENDS, PASSING_LACKING_BIT, PASSING_NOT_JUDGED_BIT, SHORT_STATIONS};
+use exports::{
+    Direction, Refusal, LONG_STATIONS, MOST_ENDS, PASSING_LACKING_BIT, PASSING_NOT_JUDGED_BIT, SHORT_STATIONS,
+};
 
 use crate::{purpose, tables};
 
@@ -48,11 +50,12 @@ impl Passing {
     }
 }
 
-/// The distances that are needed, and the zones.
+/// The distances that a driver in a direction needs, and the zones.
 pub struct Judgement {
+    pub direction: Direction,
     pub speed: u32,
     pub purpose: u32,
-    /// The grade that the stations are marked with, in hundredths of a percent.
+    /// The grade that the stations are marked with, as for rising stations, in hundredths of a percent.
     pub grade: i32,
     pub stopping: u32,
     pub decision: u32,
@@ -63,30 +66,37 @@ pub struct Judgement {
 
 impl Judgement {
     /// That of a road file.
-    pub fn of_road(file: &[u8]) -> Result<Judgement, Refusal> {
+    pub fn of_road(file: &[u8], direction: Direction) -> Result<Judgement, Refusal> {
         let [_, speed, purpose, ..] = roadtext::road_numbers(file)?.head.map(|number| number as u32);
         let mut marks = vec![0; LONG_STATIONS];
-        let stations = exports::mark_file(file, &mut marks)?;
+        let stations = exports::mark_file(file, direction, &mut marks)?;
         marks.truncate(stations as usize);
         Ok(Judgement {
+            direction,
             speed,
             purpose,
-            grade: exports::file_grade(file)?,
-            stopping: exports::file_distance(file, purpose::STOPPING)?,
-            decision: exports::file_distance(file, purpose)?,
+            grade: exports::file_grade(file, direction)?,
+            stopping: exports::file_distance(file, direction, purpose::STOPPING)?,
+            decision: exports::file_distance(file, direction, purpose)?,
             stations,
             zones: zones_by_letter(&marks)?,
         })
     }
 
-    /// That of heights, one a metre.
-    pub fn of_heights(speed: u32, purpose: u32, grade: i32, heights: &[i32]) -> Result<Judgement, Refusal> {
+    /// That of heights, one a metre, with a grade as for rising stations.
+    pub fn of_heights(
+        speed: u32,
+        purpose: u32,
+        grade: i32,
+        heights: &[i32],
+        direction: Direction,
+    ) -> Result<Judgement, Refusal> {
         let mut marks = vec![0; heights.len()];
-        let stations = exports::marks(speed, purpose, grade, heights, &mut marks)?;
-        let stopping = vcp::required_distance(speed, purpose::STOPPING, grade)?;
-        let decision = vcp::required_distance(speed, purpose, grade)?;
+        let stations = exports::marks(speed, purpose, grade, heights, direction, &mut marks)?;
+        let needed = |purpose| exports::driven_distance(speed, purpose, grade, direction);
+        let (stopping, decision) = (needed(purpose::STOPPING)?, needed(purpose)?);
         let zones = zones_by_letter(&marks)?;
-        Ok(Judgement { speed, purpose, grade, stopping, decision, stations, zones })
+        Ok(Judgement { direction, speed, purpose, grade, stopping, decision, stations, zones })
     }
 }
 
@@ -113,7 +123,8 @@ impl Preview {
         let differing = exports::preview(file, place, length, &mut marks, &mut changed_marks)?;
         let mut changed = vec![0; file.len()];
         exports::change_length(file, place, length, &mut changed)?;
-        let (before, after) = (Judgement::of_road(file)?, Judgement::of_road(&changed)?);
+        let (before, after) =
+            (Judgement::of_road(file, Direction::Rising)?, Judgement::of_road(&changed, Direction::Rising)?);
         // Behind the last station both lists are 0, so that nothing is gained or lost there.
         let gained = zones_by_letter(&without(&changed_marks, &marks))?;
         let lost = zones_by_letter(&without(&marks, &changed_marks))?;

@@ -1,5 +1,6 @@
 //! A judgement in words, in columns that line up.
 
+use exports::Direction;
 use picture::{MEANINGS, PASSING_MEANINGS};
 use roadtext::decimal;
 
@@ -69,16 +70,31 @@ fn zone_table(meanings: &[&str], zones: &[Ends], first_station: u32) -> String {
     lined_up(&rows)
 }
 
-/// The words for the stations of what is reported.
-fn stretch(first_station: u32, stations: u32) -> String {
-    format!("from station {first_station} to {} (rising)", first_station + (stations - 1))
+/// The words for the stations of what is reported, in the order in which a driver comes to them.
+fn stretch(direction: Direction, first_station: u32, stations: u32) -> String {
+    let last_station = first_station + (stations - 1);
+    match direction {
+        Direction::Rising => format!("from station {first_station} to {last_station} (rising)"),
+        Direction::Falling => format!("from station {last_station} to {first_station} (falling)"),
+    }
+}
+
+/// What a grade is for whoever comes back, behind its number: that has the sign of rising stations.
+fn slope(direction: Direction, grade: i32) -> &'static str {
+    match (direction, grade.signum()) {
+        (Direction::Falling, 1) => " (downhill)",
+        (Direction::Falling, -1) => " (uphill)",
+        _ => "",
+    }
 }
 
 /// The words for what is judged, from its first station on.
 pub fn subject(judgement: &Judgement, first_station: u32) -> String {
-    let Judgement { speed, purpose, grade, stations, .. } = *judgement;
-    let (purpose, grade) = (purpose::name(purpose), decimal::write(grade.into(), 2, 2));
-    format!("{speed} km/h, {purpose}, marked with grade {grade} %, {}", stretch(first_station, stations))
+    let Judgement { direction, speed, purpose, grade, stations, .. } = *judgement;
+    let (purpose, percent, slope) =
+        (purpose::name(purpose), decimal::write(grade.into(), 2, 2), slope(direction, grade));
+    let stretch = stretch(direction, first_station, stations);
+    format!("{speed} km/h, {purpose}, marked with grade {percent} %{slope}, {stretch}")
 }
 
 /// The report of what is judged under this name, from its first station on.
@@ -104,7 +120,7 @@ pub fn passing(name: &str, passing: &Passing) -> String {
     let sums = [sums_header(stations), sum("passing sight", distance, stations, zones.each_ref())];
     format!(
         "{name}: passing sight over {distance} m, {}\n\n{}\n{}",
-        stretch(0, stations),
+        stretch(Direction::Rising, 0, stations),
         lined_up(&sums),
         zone_table(&PASSING_MEANINGS, zones, 0)
     )

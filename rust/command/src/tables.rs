@@ -5,7 +5,7 @@ use std::fmt::Display;
 use exports::{Look, EYE_HEIGHT, GREATEST_FARTHEST, LONG_STATIONS, OBJECT_HEIGHT};
 use roadtext::decimal;
 
-use crate::answers::{file_to_write, write_answer};
+use crate::answers::{direction, file_to_write, write_answer};
 use crate::arguments::{Given, HEIGHT, WHOLE};
 use crate::engines::{self, Seen, Stations};
 use crate::output::Output;
@@ -104,7 +104,7 @@ pub fn sight(given: &Given, output: &mut Output) -> Result<u8, Trouble> {
         object: given.number("--object", HEIGHT, OBJECT_HEIGHT)?,
         farthest: given.number("--farthest", WHOLE, GREATEST_FARTHEST)?,
     };
-    let stretch = Stretch::read(given)?;
+    let (stretch, direction) = (Stretch::read(given)?, direction(given));
     let (slow, both) = (given.is_there("--slow"), given.is_there("--both"));
     if slow && both {
         return Err(given.wrong("--slow does not go with --both"));
@@ -115,10 +115,10 @@ pub fn sight(given: &Given, output: &mut Output) -> Result<u8, Trouble> {
     // The slow engine may take long, and not for a table that is not written.
     file_to_write(given)?;
     if both {
-        return write_both(given, output, &engines::both(&heights, look, stations).map_err(&refused)?);
+        return write_both(given, output, &engines::both(&heights, direction, look, stations).map_err(&refused)?);
     }
     let engine = if slow { engines::slow } else { engines::quick };
-    let sights = engine(&heights, look, stations.clone()).map_err(&refused)?;
+    let sights = engine(&heights, direction, look, stations.clone()).map_err(&refused)?;
     write_table(given, output, SIGHTS_HEADER, stations.zip(sights))
 }
 

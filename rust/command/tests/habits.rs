@@ -450,6 +450,21 @@ fn help_is_true() {
         assert!(row(name, "--object").ends_with(&metres(exports::OBJECT_HEIGHT)), "{name}");
     }
     assert!(row("sight", "--farthest").ends_with(&format!("({})", exports::GREATEST_FARTHEST)));
+    for name in ["report", "sight", "check", "plot"] {
+        assert!(row(name, "--back").ends_with(" for the lane coming back, towards falling stations"), "{name}");
+    }
+    for (name, part) in [
+        ("report", "the greatest of the road's grades, or 0 if none is positive, which they drive down"),
+        ("report", "what is not judged is at the road's start."),
+        ("sight", "in the direction of rising stations, with --back in that of falling ones."),
+        ("check", "a grade is that of rising stations either way, and whoever comes back drives down what rises."),
+        ("plot", "With --both-lanes there is a set of rows for each lane, and below the road a second line"),
+        ("plot", "Neither --passing nor --both-lanes goes with --back."),
+        ("list", "All of it is for drivers towards rising stations"),
+        ("preview", "All of it is for drivers towards rising stations."),
+    ] {
+        assert!(words(name).contains(part), "{name}: {part}");
+    }
     assert!(row("sight", "--slow").ends_with(" by the slow engine"));
     assert!(row("sight", "--both").ends_with(" by both engines"));
     for part in [

@@ -1,4 +1,4 @@
-//! `vcp plot`: the picture of the road's own numbers.
+//! `vcp plot`: the picture of the road's own numbers, of either lane and of both.
 
 mod common;
 
@@ -24,6 +24,53 @@ fn random_roads() {
         assert_eq!((ended.errors.as_str(), ended.status), ("", 0), "{road:?}");
         assert!(ended.output == Drawn::of(&road).picture(&road), "{road:?}");
     }
+}
+
+/// The lane coming back alone, and both lanes, with rows for passing and without.
+#[test]
+fn other_lanes() {
+    let folder = folder("plot_lanes");
+    let mut random = Random::new(195);
+    for round in 0..120 {
+        let room = random.within(2..=150);
+        let mut road = match round % 20 {
+            0 => roads::any_long_road(&mut random),
+            1..=12 => roads::run_of_crests(&mut random, room),
+            _ => roads::any_road(&mut random),
+        };
+        road.speed = random.one_of(&[20, 25, 30]);
+        let (there, back) = (Drawn::of(&road), Drawn::back(&road));
+        let (options, picture) = match round % 3 {
+            0 => (&["--back"][..], back.picture(&road)),
+            1 => (&["--both-lanes"][..], there.picture_with(&back, &road, None)),
+            _ => (&["--passing", "40", "--both-lanes"][..], there.picture_with(&back, &road, Some(40))),
+        };
+        let ended = run_with(&folder, &[&["plot", "-"], options].concat(), &bytes(&road)).0;
+        assert_eq!((ended.errors.as_str(), ended.status), ("", 0), "{road:?}");
+        assert!(ended.output == picture, "{options:?}, {road:?}");
+    }
+}
+
+/// Lanes that do not go together, and passing on the lane coming back: said before the file is read.
+#[test]
+fn wrong_lanes() {
+    let folder = folder("plot_wrong_lanes");
+    for options in [["--back", "--both-lanes"], ["--both-lanes", "--back"]] {
+        expect_wrong(&folder, &[&["plot", "none.vcp"], &options[..]].concat(), "--back does not go with --both-lanes");
+    }
+    let reason = "--passing does not go with --back: it is for rising stations";
+    expect_wrong(&folder, &["plot", "none.vcp", "--back", "--passing", "585"], reason);
+    expect_wrong(&folder, &["plot", "none.vcp", "--back", "--back"], "--back stands twice");
+    expect_wrong(&folder, &["plot", "none.vcp", "--both-lanes=2"], "--both-lanes takes no value");
+    fs::write(folder.join("a.vcp"), b"VCP").unwrap();
+    let line = format!("a.vcp: refused 1: {SHORT_FILE}\n");
+    for lanes in ["--back", "--both-lanes"] {
+        expect_error(&folder, &["plot", "a.vcp", lanes, "-o", "a.svg"], 1, &line);
+    }
+    fs::copy(root().join("roads/three-crests.vcp"), folder.join("a.vcp")).unwrap();
+    let line = "a.vcp: refused 21: the farthest or the passing distance is not 1 to 8,000 m\n";
+    expect_error(&folder, &["plot", "a.vcp", "--both-lanes", "--passing", "8001", "-o", "a.svg"], 1, line);
+    assert_eq!(names(&folder), ["a.vcp"]);
 }
 
 /// Roads over 8,000 m, with rows for passing and without.
@@ -79,13 +126,15 @@ fn refused_passing_distances() {
     assert_eq!(names(&folder), ["a.vcp"]);
 }
 
-/// The README's picture, to standard output and into a file.
+/// The README's pictures, to standard output and into a file.
 #[test]
 fn picture_of_the_readme() {
     let folder = folder("plot_readme");
     fs::copy(root().join("roads/three-crests.vcp"), folder.join("a.vcp")).unwrap();
     let picture = fs::read_to_string(root().join("docs/three-crests.svg")).unwrap();
     expect(&folder, &["plot", "a.vcp"], &picture);
+    let both = fs::read_to_string(root().join("docs/both-lanes.svg")).unwrap();
+    expect(&folder, &["plot", "a.vcp", "--both-lanes"], &both);
     expect(&folder, &["plot", "a.vcp", "-o", "a.svg"], "");
     assert_eq!(fs::read_to_string(folder.join("a.svg")).unwrap(), picture);
     expect_error(&folder, &["plot", "a.vcp", "-o", "./a.vcp"], 2, "./a.vcp: it would replace what it is made from\n");

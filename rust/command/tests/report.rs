@@ -1,4 +1,4 @@
-//! `vcp report` and `vcp check`: read back from their lines, and compared with the second calculation.
+//! `vcp report` and `vcp check`, for either lane: read back from their lines, and compared with the second calculation.
 
 mod common;
 
@@ -6,20 +6,29 @@ use std::fs;
 use std::path::Path;
 
 use common::{expect, expect_error, expect_wrong, folder, root, run, run_with, share, Ended, LONG_LIST, SHORT_FILE};
+use exports::Direction::{self, Falling, Rising};
+use sight_tests::engines::DIRECTIONS;
 use sight_tests::random::Random;
+use sight_tests::reference::back;
 use sight_tests::reference::distances::required_distance;
 use sight_tests::reference::file::bytes;
 use sight_tests::reference::marks::{marks, runs};
 use sight_tests::reference::road::{heights, marking_grade, Curve, Road};
+use sight_tests::reference::Answer;
 use sight_tests::roads::{self, EXAMPLE};
 
-/// The report that the README shows, of a road by this name.
-fn report_of_the_readme(name: &str) -> String {
+/// The report that the README shows behind this call, of a road by this name.
+fn shown_in_the_readme(call: &str, name: &str) -> String {
     let readme = fs::read_to_string(root().join("README.md")).expect("the README is there");
-    let mut lines = readme.lines().skip_while(|&line| line != "$ vcp report roads/three-crests.vcp").skip(1);
+    let mut lines = readme.lines().skip_while(|&line| line != call).skip(1);
     let title = lines.next().expect("the report has a title").replacen("roads/three-crests.vcp", name, 1);
     let others: String = lines.take_while(|&line| line != "```").map(|line| format!("{line}\n")).collect();
     format!("{title}\n{others}")
+}
+
+/// That of the lane towards rising stations.
+fn report_of_the_readme(name: &str) -> String {
+    shown_in_the_readme("$ vcp report roads/three-crests.vcp", name)
 }
 
 #[test]
@@ -27,11 +36,16 @@ fn report_of_three_crests() {
     let report = report_of_the_readme("roads/three-crests.vcp");
     assert_eq!(report.lines().count(), 18);
     expect(&root(), &["report", "roads/three-crests.vcp"], &report);
+    let back = shown_in_the_readme("$ vcp report --back roads/three-crests.vcp", "roads/three-crests.vcp");
+    assert_eq!(back.lines().count(), 19);
+    expect(&root(), &["report", "--back", "roads/three-crests.vcp"], &back);
 }
 
 /// What a report says.
 #[derive(Debug, PartialEq)]
 struct Said {
+    direction: Direction,
+    /// The station that a driver comes from, and that which the way leads to.
     stations: [u32; 2],
     speed: u32,
     purpose: char,
@@ -57,6 +71,15 @@ fn numbers(text: &str) -> Vec<u32> {
     text.split(|letter: char| !letter.is_ascii_digit()).filter_map(|digits| digits.parse().ok()).collect()
 }
 
+/// What stands behind a grade: nothing but for the lane coming back, which drives down what rises.
+fn driven(direction: Direction, grade: &str) -> &'static str {
+    match (direction, grade.starts_with('-')) {
+        (Rising, _) => "",
+        (Falling, _) if grade == "0.00" => "",
+        (Falling, up) => [" (downhill)", " (uphill)"][usize::from(up)],
+    }
+}
+
 /// Reads a report under a name.
 fn read_back(name: &str, report: &str) -> Said {
     let mut lines = report.lines();
@@ -65,10 +88,13 @@ fn read_back(name: &str, report: &str) -> Said {
     let [speed, purpose, grade, stretch] = parts[..] else { panic!("{title}") };
     let speed = speed.strip_suffix(" km/h").and_then(|speed| speed.parse().ok()).expect("the speed");
     let purpose = purpose.strip_prefix("decision ").expect("the purpose is named");
-    let grade = grade.strip_prefix("marked with grade ").and_then(|grade| grade.strip_suffix(" %")).expect("the grade");
+    let (grade, slope) =
+        grade.strip_prefix("marked with grade ").and_then(|grade| grade.split_once(" %")).expect("the grade");
     let [from, to] = numbers(stretch)[..] else { panic!("{title}") };
-    assert_eq!(stretch, format!("from station {from} to {to} (rising)"));
-    let all = format!("of {} stations", to - from + 1);
+    let (direction, word) = if stretch.ends_with("(falling)") { (Falling, "falling") } else { (Rising, "rising") };
+    assert_eq!(stretch, format!("from station {from} to {to} ({word})"));
+    assert_eq!(slope, driven(direction, grade), "{title}");
+    let all = format!("of {} stations", to.abs_diff(from) + 1);
     assert!(lines.next() == Some("") && lines.next().is_some_and(|line| line.starts_with(&all)), "{report}");
     let sums = ["stopping sight", "decision sight"].map(|words| {
         let line = lines.next().and_then(|line| line.strip_prefix(words)).expect("a line of sums");
@@ -91,6 +117,7 @@ fn read_back(name: &str, report: &str) -> Said {
     }
     let [stopping, decision] = sums;
     Said {
+        direction,
         stations: [from, to],
         speed,
         purpose: purpose.parse().expect("a letter"),
@@ -106,20 +133,29 @@ fn percent(grade: i32) -> String {
     format!("{}{}.{:02}", if grade < 0 { "-" } else { "" }, grade.abs() / 100, grade.abs() % 100)
 }
 
+/// Marks of heights by the second calculation.
+type Marks = fn(u32, u32, i32, &[i32], &mut [u8]) -> Answer;
+
 /// What the second calculation says of heights, whose first is that of a station.
-fn second(speed: u32, purpose: u32, grade: i32, heights: &[i32], first: u32) -> Said {
+fn second(direction: Direction, speed: u32, purpose: u32, grade: i32, heights: &[i32], first: u32) -> Said {
     let mut marked = vec![0; heights.len()];
+    let (marks, driven): (Marks, i32) = match direction {
+        Rising => (marks, grade),
+        Falling => (back::marks, -grade),
+    };
     marks(speed, purpose, grade, heights, &mut marked).expect("the heights are marked");
     let stations = |bit: u8| marked.iter().filter(|&&mark| mark >> bit & 1 == 1).count() as u32;
     let all = heights.len() as u32;
     let sum = |purpose: u32, bit: u8| {
-        let needed = required_distance(speed, purpose, grade).expect("the speed is accepted");
+        let needed = required_distance(speed, purpose, driven).expect("the speed is accepted");
         [needed, all - stations(bit + 3), stations(bit), stations(bit + 3)]
     };
     let sums = [sum(0, 0), sum(purpose, 1)];
     let zone = |[one, other]: [u32; 2]| [first + one, first + other, other - one + 1];
+    let (first, last) = (first, first + all - 1);
     Said {
-        stations: [first, first + all - 1],
+        direction,
+        stations: if direction == Rising { [first, last] } else { [last, first] },
         speed,
         purpose: char::from(b'A' + purpose as u8 - 1),
         grade: percent(grade),
@@ -144,12 +180,29 @@ fn any_judged_road(random: &mut Random, round: u32) -> Road {
     road
 }
 
-/// Compares a road's report with the second calculation, and answers it and how many zones it has.
-fn compare(folder: &Path, road: &Road) -> (String, usize) {
-    let ended = run_with(folder, &["report", "-"], &bytes(road)).0;
+/// What is added to a call for a direction.
+fn option(direction: Direction) -> &'static [&'static str] {
+    match direction {
+        Rising => &[],
+        Falling => &["--back"],
+    }
+}
+
+/// The grade that a road is marked with in a direction.
+fn grade_in(direction: Direction, road: &Road) -> i32 {
+    match direction {
+        Rising => marking_grade(road),
+        Falling => back::marking_grade(road),
+    }
+}
+
+/// Compares a road's report for a direction with the second calculation, and answers it and how many zones it has.
+fn compare(folder: &Path, road: &Road, direction: Direction) -> (String, usize) {
+    let ended = run_with(folder, &[&["report", "-"], option(direction)].concat(), &bytes(road)).0;
     assert_eq!((ended.errors.as_str(), ended.status), ("", 0), "{road:?}");
     let said = read_back("-: ", &ended.output);
-    let expected = second(road.speed.into(), road.purpose.into(), marking_grade(road), &heights_of(road), 0);
+    let (speed, purpose) = (road.speed.into(), road.purpose.into());
+    let expected = second(direction, speed, purpose, grade_in(direction, road), &heights_of(road), 0);
     assert_eq!(said, expected, "{road:?}");
     // Columns line up: the lines of zones that have numbers end in the same column.
     let ends: Vec<usize> = ended.output.lines().skip(6).filter(|line| line.ends_with(" m")).map(str::len).collect();
@@ -166,11 +219,30 @@ fn random_roads() {
     let (mut zones, mut falling) = (0, 0);
     for round in 0..600 {
         let road = any_judged_road(&mut random, round);
-        zones += compare(&folder, &road).1;
+        zones += compare(&folder, &road, Rising).1;
         falling += u32::from(marking_grade(&road) < 0);
     }
     assert!(zones > 1_000, "{zones} zones");
     assert!((400..590).contains(&falling), "{falling} of 600 roads fall");
+}
+
+/// The lane coming back.
+#[test]
+fn random_roads_back() {
+    let folder = folder("report_back");
+    let mut random = Random::new(193);
+    let (mut zones, mut rising, mut same) = (0, 0, 0);
+    for round in 0..400 {
+        let road = any_judged_road(&mut random, round);
+        let (report, many) = compare(&folder, &road, Falling);
+        zones += many;
+        rising += u32::from(back::marking_grade(&road) > 0);
+        let sums = |report: &str| report.lines().skip(1).map(str::to_string).collect::<Vec<_>>();
+        same += u32::from(sums(&report) == sums(&run_with(&folder, &["report", "-"], &bytes(&road)).0.output));
+    }
+    assert!(zones > 600, "{zones} zones");
+    assert!((250..395).contains(&rising), "{rising} of 400 roads rise");
+    assert!(same < 40, "{same} of 400 reports are the same both ways");
 }
 
 /// Roads over 8,000 m, and their heights as a survey.
@@ -180,16 +252,17 @@ fn long_roads() {
     let mut random = Random::new(124);
     let mut zones = 0;
     for round in 0..12 {
+        let direction = DIRECTIONS[round / 3 % 2];
         let far = roads::steeper(roads::far_run_of_crests(&mut random, 300));
         let road = if round % 3 == 0 { roads::any_long_road(&mut random) } else { far };
         let road = Road { speed: random.one_of(&[20, 25, 30]), ..road };
-        let (report, many) = compare(&folder, &road);
+        let (report, many) = compare(&folder, &road, direction);
         zones += many;
         let survey = run_with(&folder, &["heights", "-"], &bytes(&road)).0.output;
         let [speed, purpose] = [road.speed, road.purpose].map(|number| number.to_string());
-        let grade = percent(marking_grade(&road));
+        let grade = percent(grade_in(direction, &road));
         let arguments = ["check", "-", "--speed", &speed, "--purpose", &purpose, "--grade", &grade];
-        let ended = run_with(&folder, &arguments, survey.as_bytes()).0;
+        let ended = run_with(&folder, &[&arguments, option(direction)].concat(), survey.as_bytes()).0;
         assert_eq!(ended, Ended { output: report, errors: String::new(), status: 0 }, "{road:?}");
     }
     assert!(zones > 60, "{zones} zones");
@@ -203,7 +276,10 @@ fn both_versions() {
     for round in 0..60 {
         let road = any_judged_road(&mut random, round);
         let [first, second] = [1, 2].map(|version| bytes(&roads::in_version(version, &road)));
-        assert_eq!(run_with(&folder, &["report", "-"], &first), run_with(&folder, &["report", "-"], &second));
+        for direction in DIRECTIONS {
+            let call = [&["report", "-"], option(direction)].concat();
+            assert_eq!(run_with(&folder, &call, &first), run_with(&folder, &call, &second));
+        }
     }
 }
 
@@ -216,6 +292,9 @@ fn several_files() {
     let ended = run(&folder, &["report", "b.vcp", "a.vcp", "b.vcp", "a.vcp"]);
     let errors = format!("b.vcp: refused 1: {SHORT_FILE}\n").repeat(2);
     let report = report_of_the_readme("a.vcp");
+    assert_eq!(ended, Ended { output: format!("{report}\n{report}"), errors: errors.clone(), status: 1 });
+    let ended = run(&folder, &["report", "b.vcp", "a.vcp", "--back", "b.vcp", "a.vcp"]);
+    let report = shown_in_the_readme("$ vcp report --back roads/three-crests.vcp", "a.vcp");
     assert_eq!(ended, Ended { output: format!("{report}\n{report}"), errors, status: 1 });
 }
 
@@ -231,16 +310,19 @@ fn check_of_a_road_as_built() {
         let [speed, purpose, from_word] =
             [road.speed.into(), road.purpose.into(), from].map(|number| number.to_string());
         let survey = run_with(&folder, &["heights", "-", "--from", &from_word], &bytes(&road)).0.output;
-        let grade = marking_grade(&road);
-        let grade_word = percent(grade);
-        let arguments = ["check", "-", "--speed", &speed, "--purpose", &purpose, "--grade", &grade_word];
-        let ended = run_with(&folder, &arguments, survey.as_bytes()).0;
-        assert_eq!((ended.errors.as_str(), ended.status), ("", 0), "{road:?}");
-        let heights = &heights_of(&road)[from as usize..];
-        let expected = second(road.speed.into(), road.purpose.into(), grade, heights, from);
-        assert_eq!(read_back("-: ", &ended.output), expected, "{road:?}");
-        if from == 0 {
-            assert_eq!(ended.output, run_with(&folder, &["report", "-"], &bytes(&road)).0.output);
+        for direction in DIRECTIONS {
+            let grade = grade_in(direction, &road);
+            let grade_word = percent(grade);
+            let arguments = ["check", "-", "--speed", &speed, "--purpose", &purpose, "--grade", &grade_word];
+            let ended = run_with(&folder, &[&arguments, option(direction)].concat(), survey.as_bytes()).0;
+            assert_eq!((ended.errors.as_str(), ended.status), ("", 0), "{road:?}");
+            let heights = &heights_of(&road)[from as usize..];
+            let expected = second(direction, road.speed.into(), road.purpose.into(), grade, heights, from);
+            assert_eq!(read_back("-: ", &ended.output), expected, "{road:?}");
+            if from == 0 {
+                let report = [&["report", "-"], option(direction)].concat();
+                assert_eq!(ended.output, run_with(&folder, &report, &bytes(&road)).0.output);
+            }
         }
     }
 }
@@ -270,9 +352,15 @@ fn check_of_random_heights() {
         if round % 4 > 0 {
             arguments.push(&given_grade);
         }
+        let direction = random.one_of(&DIRECTIONS);
+        arguments.extend(option(direction));
         let ended = run_with(&folder, &arguments, survey.as_bytes()).0;
         assert_eq!((ended.errors.as_str(), ended.status), ("", 0), "{survey}");
-        assert_eq!(read_back("-: ", &ended.output), second(speed, purpose, grade, &heights, first), "{survey}");
+        assert_eq!(
+            read_back("-: ", &ended.output),
+            second(direction, speed, purpose, grade, &heights, first),
+            "{survey}"
+        );
     }
 }
 
@@ -289,7 +377,7 @@ fn check_of_many_zones() {
         let said = read_back("-: ", &ended.output);
         let lengths: Vec<u32> = said.zones[0].iter().map(|&[_, _, length]| length).collect();
         assert!(lengths.len() >= zones && lengths.iter().any(|&length| length >= metres), "{} zones", lengths.len());
-        assert_eq!(said, second(20, 1, 0, &heights, 0));
+        assert_eq!(said, second(Rising, 20, 1, 0, &heights, 0));
     }
 }
 
@@ -318,6 +406,9 @@ fn check_of_the_greatest_stations() {
     let arguments = ["check", "-", "--speed", "20", "--purpose", "1"];
     let ended = run_with(&folder, &arguments, b"4294967295,0").0;
     let title = "-: 20 km/h, decision A, marked with grade 0.00 %, from station 4294967295 to 4294967295 (rising)\n";
+    assert!(ended.output.starts_with(title), "{ended:?}");
+    let ended = run_with(&folder, &[&arguments[..], &["--back"]].concat(), b"4294967294,0\n4294967295,0").0;
+    let title = "-: 20 km/h, decision A, marked with grade 0.00 %, from station 4294967295 to 4294967294 (falling)\n";
     assert!(ended.output.starts_with(title), "{ended:?}");
     let ended = run_with(&folder, &arguments, b"4294967295,0\n4294967296,0").0;
     assert_eq!(ended.errors, "-:2: station: \"4294967296\" is out of range\n");
@@ -383,6 +474,7 @@ fn refused_surveys() {
         (3, "20", "1", "-15.01", grade),
         (0, "20", "5", "15.01", grade),
         (3, "20", "5", "99999999999999999999", grade),
+        (3, "20", "5", "-99999999999999999999", grade),
         (0, "20", "1", "-15.00", list),
         (100_002, "20", "1", "15", list),
         (110_000, "20", "1", "0", list),
@@ -390,6 +482,7 @@ fn refused_surveys() {
         fs::write(folder.join("a.csv"), survey(many)).unwrap();
         let arguments = ["check", "a.csv", "--speed", speed, "--purpose", word, "--grade", percent];
         expect_error(&folder, &arguments, 1, line);
+        expect_error(&folder, &[&arguments[..], &["--back"]].concat(), 1, line);
     }
     fs::write(folder.join("a.csv"), survey(100_001)).unwrap();
     assert_eq!(run(&folder, &["check", "a.csv", "--speed", "20", "--purpose", "1"]).status, 0);
@@ -402,16 +495,63 @@ fn refused_surveys() {
     expect_wrong(&folder, &["check", "a.csv", "--speed", "-20", "--purpose", "1"], "--speed: \"-20\" is negative");
 }
 
-/// The grade of a road is the least of its grades, also where it is the last; no road has one uphill.
+/// The grade of a road is the least of its grades, also where it is the last, and of the lane coming back the greatest, by the sign
+/// that it has for rising stations; neither lane has one that is driven uphill.
 #[test]
 fn grades_of_roads() {
     let folder = folder("report_grades");
-    for (first, last, grade) in [(0, 0, "0.00"), (300, 1, "0.00"), (-5, 0, "-0.05"), (1_500, -1_234, "-12.34")] {
+    for (first, last, grade, of_back) in [
+        (0, 0, "0.00", "0.00"),
+        (300, 1, "0.00", "3.00"),
+        (-5, 0, "-0.05", "0.00"),
+        (-300, -1, "-3.00", "0.00"),
+        (1_500, -1_234, "-12.34", "15.00"),
+        (-1_500, 1_234, "-15.00", "12.34"),
+    ] {
         let curves = vec![Curve { pvi: 100, length: 2, grade_out: last }];
         let version = 1;
         let road = Road { version, speed: 20, purpose: 1, length: 300, start_height: 0, first_grade: first, curves };
-        let ended = run_with(&folder, &["report", "-"], &bytes(&road)).0;
-        let title = format!("-: 20 km/h, decision A, marked with grade {grade} %, from station 0 to 300 (rising)\n");
-        assert!(ended.output.starts_with(&title), "{ended:?}");
+        for (direction, grade, stretch) in
+            [(Rising, grade, "from station 0 to 300 (rising)"), (Falling, of_back, "from station 300 to 0 (falling)")]
+        {
+            let ended = run_with(&folder, &[&["report", "-"], option(direction)].concat(), &bytes(&road)).0;
+            let slope = if direction == Falling && grade != "0.00" { " (downhill)" } else { "" };
+            let title = format!("-: 20 km/h, decision A, marked with grade {grade} %{slope}, {stretch}\n");
+            assert!(ended.output.starts_with(&title), "{ended:?}");
+        }
+    }
+}
+
+/// The zones of the lane coming back ascend by station, as those of the other do: by hand, on a ridge 100 m from the road's start.
+#[test]
+fn zones_of_the_lane_coming_back() {
+    let folder = folder("check_back");
+    // Up by 15 % and down again, in hundredths of a metre above the lowest end, which is 15 m below the start.
+    let height = |station: i32| 3_000 - 15 * (station - 100).abs();
+    let row = |station: i32| format!("{station},{}.{:02}\n", height(station) / 100, height(station) % 100);
+    let survey: String = (0..=300).map(row).collect();
+    let arguments = ["check", "-", "--speed", "20", "--purpose", "A", "--back"];
+    let ended = run_with(&folder, &arguments, survey.as_bytes()).0;
+    let zones = "\
+zone                     from    to   length
+stopping sight lacking    105   117     13 m
+decision sight lacking    104   122     19 m
+reduced decision zone     104   104      1 m
+reduced decision zone     118   122      5 m
+stopping not judged         0    19     20 m
+decision not judged         0    24     25 m
+";
+    assert!(ended.output.ends_with(zones), "{}", ended.output);
+}
+
+/// It is an option without a value, which no other command of a report has.
+#[test]
+fn wrong_options() {
+    let folder = folder("report_wrong");
+    expect_wrong(&folder, &["report", "a.vcp", "--back", "--back"], "--back stands twice");
+    expect_wrong(&folder, &["report", "a.vcp", "--back=1"], "--back takes no value");
+    expect_wrong(&folder, &["report", "a.vcp", "--both-lanes"], "there is no option --both-lanes");
+    for arguments in [&["list", "a.vcp"][..], &["passing", "a.vcp", "585"], &["heights", "a.vcp"]] {
+        expect_wrong(&folder, &[arguments, &["--back"]].concat(), "there is no option --back");
     }
 }

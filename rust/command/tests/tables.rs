@@ -1,4 +1,4 @@
-//! `vcp heights` and `vcp sight`, by either engine and by both, against the second calculation.
+//! `vcp heights` and `vcp sight`, by either engine and by both, in either direction, against the second calculation.
 
 mod common;
 
@@ -10,6 +10,7 @@ use std::time::Instant;
 use common::{expect, expect_error, expect_wrong, folder, root, run, run_with, Ended};
 use sight_tests::pages::{block, text};
 use sight_tests::random::Random;
+use sight_tests::reference::back;
 use sight_tests::reference::file::bytes;
 use sight_tests::reference::road::{stored_height, Road};
 use sight_tests::reference::sight::{available_sight, whole_heights, Look};
@@ -125,6 +126,45 @@ fn sights_of_random_roads() {
         let look = Look { eye: 10_800, object: 6_000, farthest: 8_000 };
         expect_sights(&folder, &[], &file, 0, &second_sights(&heights, look, 0, last));
     }
+}
+
+/// The lane coming back: from each station so many metres towards station 0.
+#[test]
+fn sights_of_the_lane_coming_back() {
+    let folder = folder("sights_back");
+    let mut random = Random::new(194);
+    let mut not_as_rising = 0;
+    for round in 0..150 {
+        let room = random.within(2..=120);
+        let road = match round % 15 {
+            0 => roads::far_run_of_crests(&mut random, room),
+            1..=5 => roads::breaks(&mut random, room),
+            _ => roads::run_of_crests(&mut random, room),
+        };
+        let heights = whole_heights(&heights(&road));
+        let look = Look {
+            eye: random.of_any_size(50_000),
+            object: random.of_any_size(50_000),
+            farthest: random.of_any_size(200),
+        };
+        let last = heights.len() - 1;
+        let from = random.within(0..=last as u32) as usize;
+        let to = last.min(from + random.within(0..=200) as usize);
+        let [eye, object] = [look.eye, look.object].map(|height| metres(height as i32));
+        let [from_word, to_word, farthest] = [from, to, look.farthest as usize].map(|number| number.to_string());
+        let options = [
+            ["--eye", &eye],
+            ["--object", &object],
+            ["--farthest", &farthest],
+            ["--from", &from_word],
+            ["--to", &to_word],
+        ];
+        let options = [&["--back"], options.as_flattened()].concat();
+        let sights: Vec<usize> = (from..=to).map(|station| back::available_sight(&heights, look, station)).collect();
+        expect_sights(&folder, &options, &bytes(&road), from, &sights);
+        not_as_rising += usize::from(sights != second_sights(&heights, look, from, to));
+    }
+    assert!(not_as_rising > 100, "{not_as_rising} of 150 tables are not those of the other direction");
 }
 
 /// Roads over 8,000 m: all heights, and the sights of any stretch.
@@ -286,6 +326,9 @@ fn wrong_options() {
         expect_wrong(&folder, &["sight", "a.vcp", &format!("{engine}=1")], &format!("{engine} takes no value"));
         expect_wrong(&folder, &["sight", "a.vcp", engine, "--to", "1001"], "--to: the last station is 1000");
     }
+    expect_wrong(&folder, &["sight", "a.vcp", "--back=1"], "--back takes no value");
+    expect_wrong(&folder, &["heights", "a.vcp", "--back"], "there is no option --back");
+    expect_wrong(&folder, &["sight", "a.vcp", "--back", "--from", "9", "--to", "8"], "--from is beyond --to");
     for engines in [["--slow", "--both"], ["--both", "--slow"]] {
         expect_wrong(&folder, &[&["sight", "none.vcp"], &engines[..]].concat(), "--slow does not go with --both");
     }
@@ -307,7 +350,7 @@ fn refused_options() {
         ("--farthest", "8001", farthest),
         ("--farthest", "4294967297", farthest),
     ] {
-        for engine in [&[][..], &["--slow"], &["--both"]] {
+        for engine in [&[][..], &["--slow"], &["--both"], &["--back"], &["--back", "--slow"], &["--both", "--back"]] {
             expect_error(&folder, &[&["sight", "a.vcp", name, value], engine].concat(), 1, line);
         }
     }
