@@ -5,9 +5,6 @@ ghost use Rattle.directions.specs.Directions.{counted, drivenGrade};
 // Towards rising stations, as the road is measured.
 pub const FORWARD: bool = false;
 
-// Towards falling stations, in the lane coming back.
-pub const BACKWARD: bool = true;
-
 // The place of a station among `n` stations in the order in which a driver meets them, and the station at such a place. Backward it is 0
 // where there is no such station.
 pub fn counted(back: bool, n: usize, k: usize) -> usize

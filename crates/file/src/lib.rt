@@ -119,6 +119,7 @@ fn curve_at(file: &[u8], version: u32, k: u8) -> Curve
     }
 }
 
+// An unused curve place.
 pub const NO_CURVE: Curve = Curve {
     pvi: 0,
     length: 0,
@@ -158,6 +159,7 @@ fn road_in(file: &[u8]) -> Road
     }
 }
 
+// What stands beside a refusal in the place of a road.
 pub const NO_ROAD: Road = Road {
     version: 0,
     speed: 0,
