@@ -6,6 +6,7 @@ use road::Road;
 use terms::Verdict;
 
 // The road with another length at its curve at a place, counted from 0. Where it has no such place it stays as it is.
+#[tactic(auto, unfolding(crate::specs::Change::with_length))]
 pub fn with_length(road: Road, place: u32, length: u16) -> Road
     ensures { result ≡ with_length road place length }
 {
@@ -20,6 +21,7 @@ pub fn with_length(road: Road, place: u32, length: u16) -> Road
 
 // Whether a road is accepted, has a curve at the place, and is accepted with that curve's new length. A length over 2,000 is refused
 // before it is narrowed.
+#[tactic(auto, unfolding(crate::specs::Change::change_verdict))]
 pub fn change_verdict(road: Road, most: u32, place: u32, length: u32) -> Verdict
     ensures { result ≡ change_verdict most road place length }
 {

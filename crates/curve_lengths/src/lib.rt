@@ -8,6 +8,7 @@ ghost use Rattle.terms.specs.Limits.{greatest_speed, greatest_grade_change, grea
 use terms::{Answer, Verdict};
 
 // Whether x − y ≤ √z. The largest x is a S² = 1,920,000,000, whose square is below 3.7 × 10^18.
+#[tactic(auto, unfolding(crate::specs::Lengths::within_root))]
 fn within_root(x: u64, y: u64, z: u64) -> bool
     requires { x ≤ greatest_grade_change * (greatest_sight_distance * greatest_sight_distance) }
     ensures { result ≡ within_root x y z }
@@ -21,6 +22,7 @@ fn within_root(x: u64, y: u64, z: u64) -> bool
 
 // Whether the length l is adequate for the change in grade a and the sight distance s, with Q = u + √w. The largest product is
 // l² w = 4,000,000 × 40,000,000,000 = 1.6 × 10^17.
+#[tactic(auto, unfolding(crate::specs::Lengths::adequate))]
 fn adequate(a: u64, s: u64, u: u64, w: u64, l: u64) -> bool
     requires { Sized a s u w × (l ≤ greatest_answered_length) }
     ensures { result ≡ adequate a s u w l }
@@ -32,6 +34,7 @@ fn adequate(a: u64, s: u64, u: u64, w: u64, l: u64) -> bool
 }
 
 // Whether the length l is long enough: it reaches the minimum for the speed v, and it is adequate.
+#[tactic(auto, unfolding(crate::specs::Lengths::long_enough, crate::specs::Lengths::adequate))]
 fn long_enough(v: u64, a: u64, s: u64, u: u64, w: u64, l: u64) -> bool
     requires { (v ≤ greatest_speed) × Sized a s u w × (l ≤ greatest_answered_length) }
     ensures { result ≡ long_enough v (adequate a s u w) l }
@@ -44,6 +47,7 @@ fn long_enough(v: u64, a: u64, s: u64, u: u64, w: u64, l: u64) -> bool
 
 // The least even length from 0 to 2,000 that is long enough, by a binary search over half the length: about ten lengths are
 // tested.
+#[tactic(auto, unfolding(crate::specs::Lengths::long_enough, crate::specs::Lengths::adequate))]
 fn least_length(v: u64, a: u64, s: u64, u: u64, w: u64) -> Answer
     requires { (v ≤ greatest_speed) × Sized a s u w }
     ensures { result ≡ least_length (long_enough v (adequate a s u w)) }
@@ -68,6 +72,7 @@ fn least_length(v: u64, a: u64, s: u64, u: u64, w: u64) -> Answer
 }
 
 // Refusals 6, 15 and 16, which crests and sags share.
+#[tactic(auto, unfolding(crate::specs::Lengths::length_verdict))]
 fn length_verdict(speed: u32, change: u32, sight: u32) -> Verdict
     ensures { result ≡ length_verdict speed change sight }
 {
@@ -85,6 +90,7 @@ fn length_verdict(speed: u32, change: u32, sight: u32) -> Verdict
 
 // The least even length of a crest with this drop in grade over which an eye and an object of these heights see each other from
 // the sight distance, and which reaches the minimum for the speed.
+#[tactic(auto, unfolding(crate::specs::Lengths::crest_length))]
 pub fn crest_length(speed: u32, drop: u32, sight: u32, eye: u32, object: u32) -> Answer
     ensures { result ≡ crest_length speed drop sight eye object }
 {
@@ -108,6 +114,7 @@ pub fn crest_length(speed: u32, drop: u32, sight: u32, eye: u32, object: u32) ->
 
 // The least even length of a sag with this rise in grade in which headlights reach the sight distance, and which reaches the minimum
 // for the speed.
+#[tactic(auto, unfolding(crate::specs::Lengths::sag_length))]
 pub fn sag_length(speed: u32, rise: u32, sight: u32) -> Answer
     ensures { result ≡ sag_length speed rise sight }
 {

@@ -20,6 +20,7 @@ pub fn counted(back: bool, n: usize, k: usize) -> usize
 }
 
 // A grade as it is driven. Its range is tested before its sign changes: one out of range stays as it is.
+#[tactic(auto, unfolding(crate::specs::Directions::driven_grade))]
 pub fn driven_grade(back: bool, grade: i32) -> i32
     ensures { result ≡ driven_grade back grade }
 {

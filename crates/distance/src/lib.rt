@@ -10,14 +10,14 @@ use terms::Answer;
 mod sheet;
 
 // A purpose's reaction time in tenths of a second, and whether the braking term counts.
-#[derive(Drop)]
+#[derive(Clone, Copy)]
 pub struct Purpose {
     pub reaction: u64,
     pub braking: bool,
 }
 
 // What a speed needs on a grade to stop, and to decide for a purpose, in metres.
-#[derive(Drop)]
+#[derive(Clone, Copy)]
 pub struct Distances {
     pub stopping: u32,
     pub decision: u32,
@@ -26,7 +26,7 @@ pub struct Distances {
 // How a car passes another: the time t1 of its initial manoeuvre in tenths of a second, its acceleration a in hundredths of km/h per
 // second, its speed v and how much faster m it is than the other in tenths of km/h, its time t2 in the left lane in tenths of a second,
 // and the clearance d3 in metres that is left to an oncoming car.
-#[derive(Drop)]
+#[derive(Clone, Copy)]
 pub struct Manoeuvre {
     pub t1: u32,
     pub a: u32,
@@ -68,6 +68,7 @@ const PURPOSES: [Purpose; 6] = [
 ];
 
 // `num / den` metres, rounded up to a multiple of 5 m.
+#[tactic(auto, unfolding(crate::specs::Distance::up_to_five))]
 fn up_to_five(num: u64, den: u64) -> u64
     requires { (0 < den) × (num < 1000000000000000000) × (den < 1000000000000000000) }
     ensures { result ≡ up_to_five num den }
@@ -77,6 +78,7 @@ fn up_to_five(num: u64, den: u64) -> u64
 }
 
 // The distance on a level road, in metres, off the sheet.
+#[tactic(auto, unfolding(crate::specs::Distance::level_metres))]
 fn level_metres(speed: u64, purpose: usize) -> u16
     requires { (least_speed ≤ speed) × (speed ≤ greatest_speed) × (purpose ≤ last_purpose) }
     ensures { result ≡ level_metres speed (purpose_row purpose) }
@@ -94,6 +96,7 @@ fn deceleration_parts(grade: i32) -> u64
 }
 
 // The distance on a grade, braking counted: 0.278 V T + V² / (254 (3.4 / 9.81 + G)) metres, over the denominator 635,000 b.
+#[tactic(auto, unfolding(crate::specs::Distance::graded_metres))]
 fn graded_metres(speed: u64, row: Purpose, grade: i32) -> u64
     requires { (speed ≤ greatest_speed) × (row.reaction ≤ 145) × (grade_outside grade ≡ false) }
     ensures { result ≡ graded_metres speed row grade }
@@ -104,6 +107,7 @@ fn graded_metres(speed: u64, row: Purpose, grade: i32) -> u64
 }
 
 // The distance for a purpose: worked out where braking meets a grade, else read off the sheet.
+#[tactic(auto, unfolding(crate::specs::Distance::metres_for))]
 fn metres_for(speed: u64, purpose: usize, grade: i32) -> u64
     requires { (least_speed ≤ speed) × (speed ≤ greatest_speed) × (purpose ≤ last_purpose) × (grade_outside grade ≡ false) }
     ensures { result ≡ metres_for speed (purpose_row purpose) grade }
@@ -117,6 +121,7 @@ fn metres_for(speed: u64, purpose: usize, grade: i32) -> u64
 
 // The distance that a driver at `speed` km/h needs for a purpose, 0 stopping, 1 to 5 decision A to E, on a grade in hundredths of a
 // percent, uphill positive.
+#[tactic(auto, unfolding(crate::specs::Distance::required_distance))]
 pub fn required_distance(speed: u32, purpose: u32, grade: i32) -> Answer
     ensures { result ≡ required_distance speed purpose grade }
 {
@@ -133,6 +138,7 @@ pub fn required_distance(speed: u32, purpose: u32, grade: i32) -> Answer
 }
 
 // The distance to stop and the one to decide on a grade; 0 where it is refused.
+#[tactic(auto, unfolding(crate::specs::Distance::distances_for))]
 pub fn distances_for(speed: u32, purpose: u32, grade: i32) -> Distances
     ensures { result ≡ distances_for speed purpose grade }
 {
@@ -145,6 +151,7 @@ pub fn distances_for(speed: u32, purpose: u32, grade: i32) -> Distances
 }
 
 // Whether any value of a manoeuvre is outside its range.
+#[tactic(auto, unfolding(crate::specs::PassingDistance::manoeuvre_outside))]
 fn manoeuvre_outside(w: Manoeuvre) -> bool
     ensures { result ≡ manoeuvre_outside w }
 {
@@ -173,6 +180,7 @@ fn manoeuvre_outside(w: Manoeuvre) -> bool
 
 // The passing distance before rounding: the initial manoeuvre, the left lane, the clearance, and the oncoming car's two thirds of the
 // time in the left lane.
+#[tactic(auto, unfolding(crate::specs::PassingDistance::passing_parts))]
 fn passing_parts(w: Manoeuvre) -> u64
     requires { manoeuvre_outside w ≡ false }
     ensures { result ≡ passing_parts w }
@@ -190,6 +198,7 @@ fn passing_parts(w: Manoeuvre) -> u64
 }
 
 // The distance that a driver needs to see to pass another car.
+#[tactic(auto, unfolding(crate::specs::PassingDistance::passing_distance))]
 pub fn passing_distance(w: Manoeuvre) -> Answer
     ensures { result ≡ passing_distance w }
 {

@@ -12,7 +12,7 @@ use road::{Curve, Road};
 use terms::Verdict;
 
 // What reading answers, and beside it the road: all zero where the file is refused.
-#[derive(Drop)]
+#[derive(Clone, Copy)]
 pub struct ReadRoad {
     pub verdict: Verdict,
     pub road: Road,
@@ -51,6 +51,7 @@ pub const ENOUGH_BYTES: usize = LONG_STATION_BYTES
     + 1;
 
 // The bytes of a station in a file of this version.
+#[tactic(auto, unfolding(crate::specs::File::station_bytes))]
 pub fn station_bytes(version: u32) -> usize
     ensures { result ≡ station_bytes version }
 {
@@ -70,6 +71,7 @@ pub fn file_length(version: u32, count: u8) -> usize
 
 // ---- numbers in a file
 // The number of `width` bytes from place `at` on, lowest first.
+#[tactic(auto, unfolding(crate::specs::File::number_at))]
 fn number_at(file: &[u8], at: usize, width: usize) -> u32
     requires { (width ≤ 4) × (at + width ≤ length file.now) }
     ensures { (result ≡ number_at file.now at width) × (result < 256 ^ width) }
@@ -105,6 +107,7 @@ fn signed32(bits: u32) -> i32
 }
 
 // Record k of a file of this version: PVI, length, grade out.
+#[tactic(auto, unfolding(crate::specs::File::curve_at))]
 fn curve_at(file: &[u8], version: u32, k: u8) -> Curve
     requires { file_length version (k + 1) ≤ length file.now }
     ensures { result ≡ curve_at version file.now k }
@@ -126,6 +129,7 @@ pub const NO_CURVE: Curve = Curve {
 };
 
 // Records 0 to n - 1, and zero in the other curve places.
+#[tactic(auto, unfolding(whole::specs::Fill::filled, crate::specs::File::curve_at))]
 fn curves_in(file: &[u8], version: u32, n: u8) -> [Curve; road::CURVE_PLACES]
     requires { (n ≤ greatest_curve_count) × (file_length version n ≤ length file.now) }
     ensures { result ≡ filled (curve_at version file.now) 0 n (replicate greatest_curve_count no_curve) }
@@ -138,6 +142,7 @@ fn curves_in(file: &[u8], version: u32, n: u8) -> [Curve; road::CURVE_PLACES]
 }
 
 // The road in a file whose length is that of its number of curves.
+#[tactic(auto, unfolding(crate::specs::File::road_in))]
 fn road_in(file: &[u8]) -> Road
     requires { (curve_count file.now ≤ greatest_curve_count) × (length file.now ≡ file_length (version_in file.now) (curve_count file.now)) }
     ensures { result ≡ road_in file.now }
@@ -171,6 +176,7 @@ pub const NO_ROAD: Road = Road {
 };
 
 // Refusals 1 to 5 of a file, by its header and its length.
+#[tactic(auto, unfolding(crate::specs::Reading::header_verdict))]
 fn header_verdict(file: &[u8]) -> Verdict
     ensures { result ≡ header_verdict file.now }
 {
@@ -198,6 +204,7 @@ fn header_verdict(file: &[u8]) -> Verdict
 }
 
 // Reads a road file, where no road over `most` metres is taken. Refused by 1 to 5 as its header is, then as its road is.
+#[tactic(auto, unfolding(crate::specs::Reading::read_up_to))]
 pub fn read(file: &[u8], most: u32) -> ReadRoad
     ensures { result ≡ read_up_to most file.now }
 {

@@ -12,7 +12,7 @@ use road::{Curve, Road};
 use terms::{Answer, Verdict};
 
 // Where a walk along the profile stands: a station, the height there, and the grade onward.
-#[derive(Drop)]
+#[derive(Clone, Copy)]
 struct Walk {
     station: u32,
     height: i32,
@@ -39,6 +39,7 @@ fn on_curve(at: Walk, c: Curve, d: u32) -> i32
 }
 
 // Fills the stations after this one up to `to`, along the straight.
+#[tactic(auto, unfolding(whole::specs::Fill::filled))]
 fn fill_straight(at: Walk, to: u32, list: &mut [i32])
     requires { StraightTo at to × (to < length list.old) }
     ensures { list.new ≡ filled (height_along at) (at.station + 1) (to - at.station) list.old }
@@ -53,6 +54,7 @@ fn fill_straight(at: Walk, to: u32, list: &mut [i32])
 }
 
 // Fills the stations after this one up to the end of a curve that begins here.
+#[tactic(auto, unfolding(whole::specs::Fill::filled))]
 fn fill_curve(at: Walk, c: Curve, list: &mut [i32])
     requires { CurveHere at c × (end c < length list.old) }
     ensures { list.new ≡ filled (height_over at c) (at.station + 1) c.length list.old }
@@ -92,6 +94,7 @@ fn walk_over(at: Walk, c: Curve) -> Walk
 }
 
 // Fills the stations after this one up to the end of the next curve, and answers the walk there.
+#[tactic(auto, unfolding(whole::specs::Fill::filled))]
 fn past_curve(at: Walk, c: Curve, list: &mut [i32]) -> Walk
     requires { CurveAhead at c × (end c < length list.old) }
     ensures value { result ≡ past at c }
@@ -105,6 +108,7 @@ fn past_curve(at: Walk, c: Curve, list: &mut [i32]) -> Walk
 }
 
 // Fills the stations 0 to N: the curves as listed, then the straight after the last.
+#[tactic(auto, unfolding(whole::specs::Fill::filled, crate::specs::Profile::stored_height))]
 fn fill_road(road: Road, list: &mut [i32])
     requires { (road_verdict road ≡ Verdict.Accepted) × (road.length < length list.old) }
     ensures { list.new ≡ filled (stored_height road) 0 (road.length + 1) list.old }
@@ -125,6 +129,7 @@ fn fill_road(road: Road, list: &mut [i32])
 }
 
 // Heights: the first N + 1 places of the list are filled with the heights at stations 0 to N.
+#[tactic(auto, unfolding(crate::specs::Heights::heights_answer, crate::specs::Heights::heights_list))]
 pub fn heights(road: Road, list: &mut [i32]) -> Answer
     ensures answer { result ≡ heights_answer road list.old }
     ensures list { list.new ≡ heights_list road list.old }

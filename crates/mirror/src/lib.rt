@@ -8,7 +8,7 @@ use road::{Curve, Road};
 use terms::Verdict;
 
 // What mirroring answers, and beside it the mirror: all zero where it is refused.
-#[derive(Drop)]
+#[derive(Clone, Copy)]
 pub struct Mirrored {
     pub verdict: Verdict,
     pub road: Road,

@@ -1,4 +1,4 @@
--- The curve places of a road: one that a function is handed has 32, and from a place in use on come the curve there and the rest.
+-- The curve places of a road: from a place in use on come the curve there and the rest.
 use Prim.Native.Nat.{ℕ, ◌+◌, ◌≤◌, ◌<◌}
 use mathlib.Core.List.{List, ◌∷◌}
 use mathlib.Core.Path.{◌≡◌, refl, sym, ◌∙◌}
@@ -15,10 +15,6 @@ use Rattle.road.specs.declared.Road.{Road}
 use Rattle.road.specs.Road.{curves_of}
 use Rattle.road.specs.contracts.Curve as curve
 use Rattle.road.specs.contracts.Road as road
-
--- from what owning it tells (`c.good.0` of a first parameter)
-pub curve_places : (r : Road) (vs : List Val) → Is (row road.the_type) r vs → length r.curves ≡ greatest_curve_count
-curve_places r vs is = sym (length-map r.curves (curve.the_field).into) ∙ is.1.1.1.1.1.1.1.1.1.0.1.0.1
 
 -- a place in use is one of the road's
 pub place_in_use : (r : Road) {i : ℕ} → r.count ≤ length r.curves → i < r.count → i < length (curves_of r)

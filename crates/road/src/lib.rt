@@ -6,7 +6,7 @@ ghost use Rattle.road.specs.Road.{half, begin, end, start_of, curves_of, sharp_b
 use terms::Verdict;
 
 // A curve: the station where its two straights meet (PVI), its length in metres, and its grade out.
-#[derive(Drop)]
+#[derive(Clone, Copy)]
 pub struct Curve {
     pub pvi: u32,
     pub length: u16,
@@ -18,7 +18,7 @@ pub const CURVE_PLACES: usize = terms::GREATEST_CURVE_COUNT as usize;
 
 // A road: its version, the speed, the decision purpose, the length N, the start height, the first grade, and the first `count` of
 // the curve places.
-#[derive(Drop)]
+#[derive(Clone, Copy)]
 pub struct Road {
     pub version: u32,
     pub speed: u8,
@@ -46,6 +46,7 @@ fn longest_road(most: u32, version: u32) -> u32
 }
 
 // Refusals 6 to 10 of a road's own numbers, the curves left out, where no road over `most` metres is taken.
+#[tactic(auto, unfolding(crate::specs::Road::numbers_verdict))]
 fn numbers_verdict(road: Road, most: u32) -> Verdict
     ensures { result ≡ numbers_verdict most road }
 {
@@ -106,6 +107,7 @@ fn sharp_break(before: Curve, c: Curve) -> bool
 }
 
 // Refusals 10 to 13 and 25 of one curve of a road of length `n`, after the curve listed just before it.
+#[tactic(auto, unfolding(crate::specs::Road::curve_verdict))]
 fn curve_verdict(before: Curve, c: Curve, n: u32) -> Verdict
     ensures { result ≡ curve_verdict n before c }
 {
@@ -130,6 +132,7 @@ fn curve_verdict(before: Curve, c: Curve, n: u32) -> Verdict
 }
 
 // The curves in use in turn, each after the one listed just before it; the lowest with a fault decides.
+#[tactic(auto, unfolding(crate::specs::Road::curves_verdict))]
 fn curves_verdict(road: Road) -> Verdict
     requires { road.count ≤ greatest_curve_count }
     ensures { result ≡ curves_verdict road.length (start_of road) (curves_of road) }
@@ -157,6 +160,7 @@ fn curves_verdict(road: Road) -> Verdict
 
 // Whether a road is accepted where none over `most` metres is: the first of the refusals 3, 4, then 6 to 13 and 25, that applies to
 // it.
+#[tactic(auto, unfolding(crate::specs::Road::verdict_up_to))]
 pub fn verdict(road: Road, most: u32) -> Verdict
     ensures { result ≡ verdict_up_to most road }
 {

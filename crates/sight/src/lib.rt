@@ -13,6 +13,7 @@ use terms::{Answer, Verdict};
 // goes straight down. It alone decides about the next station: an object on it or above it is seen. Where the road there reaches the
 // line, so does any object on it, and the line to that road is the steepest from then on. Slopes are compared by products, `road / next`
 // with `rise / run`. The answer is how many sight lines were compared.
+#[tactic(auto, unfolding(crate::specs::Comparisons::total, crate::specs::Comparisons::comparisons_toward, whole::specs::Fill::filled, crate::specs::Operations::sight_toward))]
 fn fill_sights(
     heights: &[i32],
     back: bool,
@@ -67,6 +68,7 @@ fn fill_sights(
 }
 
 // Sight from one station in a direction: the walk over this one.
+#[tactic(auto, unfolding(crate::specs::Operations::sight_answer))]
 pub fn sight(
     heights: &[i32],
     back: bool,
@@ -89,6 +91,7 @@ pub fn sight(
 }
 
 // How many sight lines the search from one station in a direction compares.
+#[tactic(auto, unfolding(crate::specs::Comparisons::comparisons_answer))]
 pub fn comparisons(
     heights: &[i32],
     back: bool,
@@ -111,6 +114,7 @@ pub fn comparisons(
 }
 
 // The sight profile in a direction: every station's sight, at its own place.
+#[tactic(auto, unfolding(crate::specs::Operations::profile_answer, crate::specs::Operations::profile_list))]
 pub fn profile(
     heights: &[i32],
     back: bool,

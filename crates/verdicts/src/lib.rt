@@ -6,6 +6,7 @@ ghost use Rattle.verdicts.specs.Verdicts.{look_verdict, sight_verdict, profile_v
 use terms::Verdict;
 
 // Refusals 17 and 21 of a look from an eye to an object.
+#[tactic(auto, unfolding(crate::specs::Verdicts::look_verdict))]
 fn look_verdict(eye: u32, object: u32, farthest: u32) -> Verdict
     ensures { result ≡ look_verdict eye object farthest }
 {
@@ -19,6 +20,7 @@ fn look_verdict(eye: u32, object: u32, farthest: u32) -> Verdict
 }
 
 // Sight from one station, over as many heights.
+#[tactic(auto, unfolding(crate::specs::Verdicts::sight_verdict))]
 pub fn sight_verdict(heights: usize, station: u32, eye: u32, object: u32, farthest: u32) -> Verdict
     ensures { result ≡ sight_verdict heights station eye object farthest }
 {
@@ -32,6 +34,7 @@ pub fn sight_verdict(heights: usize, station: u32, eye: u32, object: u32, farthe
 }
 
 // The sight profile, but for the room in its list.
+#[tactic(auto, unfolding(crate::specs::Verdicts::profile_verdict))]
 pub fn profile_verdict(heights: usize, eye: u32, object: u32, farthest: u32) -> Verdict
     ensures { result ≡ profile_verdict heights eye object farthest }
 {
@@ -42,6 +45,7 @@ pub fn profile_verdict(heights: usize, eye: u32, object: u32, farthest: u32) -> 
 }
 
 // Marks, but for the room in their list.
+#[tactic(auto, unfolding(crate::specs::Verdicts::marks_verdict))]
 pub fn marks_verdict(speed: u32, purpose: u32, grade: i32, heights: usize) -> Verdict
     ensures { result ≡ marks_verdict speed purpose grade heights }
 {
@@ -61,6 +65,7 @@ pub fn marks_verdict(speed: u32, purpose: u32, grade: i32, heights: usize) -> Ve
 }
 
 // Passing marks, but for the room in their list.
+#[tactic(auto, unfolding(crate::specs::Verdicts::passing_verdict))]
 pub fn passing_verdict(heights: usize, distance: u32) -> Verdict
     ensures { result ≡ passing_verdict heights distance }
 {

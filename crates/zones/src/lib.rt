@@ -7,6 +7,7 @@ ghost use Rattle.zones.specs.Zones.{has_bit, begins_at, ends_at, only, zone_ends
 use terms::Answer;
 
 // Whether the mark of station `i` has the bit. Beyond the last station there is none.
+#[tactic(auto, unfolding(crate::specs::Zones::has_bit))]
 fn has_bit(marks: &[u8], bit: u32, i: usize) -> bool
     requires { bit ≤ last_bit }
     ensures { result ≡ has_bit marks.now bit i }
@@ -18,6 +19,7 @@ fn has_bit(marks: &[u8], bit: u32, i: usize) -> bool
 }
 
 // Whether a zone begins at station `i`.
+#[tactic(auto, unfolding(crate::specs::Zones::begins_at))]
 fn begins_at(marks: &[u8], bit: u32, i: usize) -> bool
     requires { bit ≤ last_bit }
     ensures { result ≡ begins_at marks.now bit i }
@@ -29,6 +31,7 @@ fn begins_at(marks: &[u8], bit: u32, i: usize) -> bool
 }
 
 // Whether a zone ends at station `i`.
+#[tactic(auto, unfolding(crate::specs::Zones::ends_at))]
 fn ends_at(marks: &[u8], bit: u32, i: usize) -> bool
     requires { (bit ≤ last_bit) × (i < length marks.now) }
     ensures { result ≡ ends_at marks.now bit i }
@@ -37,6 +40,7 @@ fn ends_at(marks: &[u8], bit: u32, i: usize) -> bool
 }
 
 // How many zones there are.
+#[tactic(auto, unfolding(crate::specs::Zones::zone_count))]
 fn count_zones(marks: &[u8], bit: u32) -> usize
     requires { bit ≤ last_bit }
     ensures { result ≡ zone_count marks.now bit (length marks.now) }
@@ -63,6 +67,7 @@ fn put_if(test: bool, station: u32, list: &mut [u32], at: usize) -> usize
 }
 
 // Writes the first and the last station of each zone, from place 0 on.
+#[tactic(auto, unfolding(whole::specs::Placed::placed, crate::specs::Zones::zone_ends))]
 fn write_zones(marks: &[u8], bit: u32, list: &mut [u32])
     requires { ZonesFit marks.now bit list.old }
     ensures { list.new ≡ placed (zone_ends marks.now bit (length marks.now)) 0 list.old }
@@ -76,6 +81,7 @@ fn write_zones(marks: &[u8], bit: u32, list: &mut [u32])
 }
 
 // The zones of a bit: the first and the last station of each, in pairs, ascending, into `list`. The answer is their number.
+#[tactic(auto, unfolding(crate::specs::Zones::zones_answer, crate::specs::Zones::zones_list))]
 pub fn zones(marks: &[u8], bit: u32, list: &mut [u32]) -> Answer
     ensures answer { result ≡ zones_answer marks.now bit list.old }
     ensures list { list.new ≡ zones_list marks.now bit list.old }

@@ -12,9 +12,9 @@ use Rattle.whole.proofs.floor_div.Statement.{statement}
 use Rattle.whole.proofs.floor_div.Tie as tie
 
 -- what holds where the divisor passed its test
-module _ (c : tie.Else1) where
+module _ (c : tie.Else-d-le0) where
   positive : pos 0 <ℤ c.before.args.d
-  positive = le_false (plain c.before.ranges.d) refl c.if1.false
+  positive = le_false (plain c.before.ranges.d) refl c.if-d-le0.false
 
   turned : SFits w64 (negsuc 0 -ℤ c.before.args.n)
   turned = turn_fits c.before.ranges.n
@@ -23,46 +23,46 @@ module _ (c : tie.Else1) where
   quotient = quot_fits turned positive
 
 -- a divisor that is not positive
-returns : tie.Need-returns
-returns c =
+returns-then-d-le0 : tie.Need-returns-then-d-le0
+returns-then-d-le0 c =
     let s = c.before in
-    floor_none s.args.n s.args.d (le_true (plain s.ranges.d) refl c.if1.true)
+    floor_none s.args.n s.args.d (le_true (plain s.ranges.d) refl c.if-d-le0.true)
 
 -- a dividend below zero
-sub-result : tie.Need-overflow-sub-result
-sub-result c = rw (plain c.before.before.ranges.n) (turned c.before)
+overflow_sub-result : tie.Need-overflow_sub-result
+overflow_sub-result c = rw (plain c.before.before.ranges.n) (turned c.before)
 
-div-result : tie.Need-nonzero-div-result
-div-result c =
+nonzero_div-result : tie.Need-nonzero_div-result
+nonzero_div-result c =
     let s = c.before.before in
     rw (plain s.ranges.d, plain s.ranges.n, plain (turned c.before))
     (divisor_bits w64 s.args.d (positive c.before), quotient c.before)
 
-sub-result-2 : tie.Need-overflow-sub-result-2
-sub-result-2 c =
+overflow_sub-result-then-n-lt0 : tie.Need-overflow_sub-result-then-n-lt0
+overflow_sub-result-then-n-lt0 c =
     let s = c.before.before in
     rw (plain s.ranges.d, plain s.ranges.n, plain (turned c.before), plain (quotient c.before))
     (turn_fits (quotient c.before))
 
-returns-2 : tie.Need-returns-2
-returns-2 c =
+returns-then-n-lt0 : tie.Need-returns-then-n-lt0
+returns-then-n-lt0 c =
     let s = c.before.before in let n = plain s.ranges.n in
     let q = quotient c.before in
     rw (plain s.ranges.d, n, plain (turned c.before), plain q, plain (turn_fits q))
-    (floor_down s.args.n s.args.d (lt_true n refl c.if2.true) (positive c.before))
+    (floor_down s.args.n s.args.d (lt_true n refl c.if-n-lt0.true) (positive c.before))
 
 -- a dividend from zero up
-div-result-2 : tie.Need-nonzero-div-result-2
-div-result-2 c =
+nonzero_div-result-2 : tie.Need-nonzero_div-result-2
+nonzero_div-result-2 c =
     let s = c.before.before in
     rw (plain s.ranges.d, plain s.ranges.n)
     (divisor_bits w64 s.args.d (positive c.before), quot_fits s.ranges.n (positive c.before))
 
-returns-3 : tie.Need-returns-3
-returns-3 c =
+returns : tie.Need-returns
+returns c =
     let s = c.before.before in let n = plain s.ranges.n in
     rw (plain s.ranges.d, n, plain (quot_fits s.ranges.n (positive c.before)))
-    (floor_up s.args.n s.args.d (lt_false n refl c.if2.false) (positive c.before))
+    (floor_up s.args.n s.args.d (lt_false n refl c.if-n-lt0.false) (positive c.before))
 
 pub floor_div_spec : {M : Type 1} → statement M
-floor_div_spec = tie.close (tie.spec returns sub-result div-result sub-result-2 returns-2 div-result-2 returns-3)
+floor_div_spec = tie.close (tie.spec returns-then-d-le0 overflow_sub-result nonzero_div-result overflow_sub-result-then-n-lt0 returns-then-n-lt0 nonzero_div-result-2 returns)
