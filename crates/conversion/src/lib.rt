@@ -17,6 +17,7 @@ fn other_version(version: u32) -> u32
 }
 
 // The same road in another version.
+#[tactic(auto, unfolding(crate::specs::Conversion::in_version))]
 fn in_version(version: u32, road: Road) -> Road
     ensures { result ≡ in_version version road }
 {
@@ -27,6 +28,7 @@ fn in_version(version: u32, road: Road) -> Road
 
 // Writes the file of the other version at the front of a buffer, and answers how many bytes that is. Refused as reading is, then by
 // 27 and by 14; the buffer is then as it was.
+#[tactic(auto, unfolding(crate::specs::Conversion::convert_answer, crate::specs::Conversion::convert_list))]
 pub fn convert(file: &[u8], out: &mut [u8]) -> Answer
     ensures answer { result ≡ convert_answer file.now out.old }
     ensures list { out.new ≡ convert_list file.now out.old }

@@ -47,6 +47,7 @@ fn write_word(word: &[u8], text: &mut [u8], at: usize) -> usize
 }
 
 // Writes the digit of the place that counts `p`, or nothing where `x` is below it.
+#[tactic(auto, unfolding(crate::specs::Listing::digit))]
 fn write_digit(p: u32, x: u32, text: &mut [u8], at: usize) -> usize
     requires { 0 < p }
     ensures { Put (digit p x) at result text.old text.new }
@@ -58,6 +59,7 @@ fn write_digit(p: u32, x: u32, text: &mut [u8], at: usize) -> usize
 }
 
 // Writes a space and a number below 100,000.
+#[tactic(auto, unfolding(crate::specs::Listing::item))]
 fn write_item(x: u32, text: &mut [u8], at: usize) -> usize
     ensures { Put (item x) at result text.old text.new }
 {
@@ -70,6 +72,7 @@ fn write_item(x: u32, text: &mut [u8], at: usize) -> usize
 }
 
 // Writes a line of a word and numbers.
+#[tactic(auto, unfolding(crate::specs::Listing::line))]
 fn write_line(word: &[u8], numbers: &[u32], text: &mut [u8], at: usize) -> usize
     ensures { Put (line word.now numbers.now) at result text.old text.new }
 {
@@ -95,6 +98,7 @@ fn write_zone_lines(letter: u8, ends: &[u32], count: usize, text: &mut [u8], at:
 }
 
 // Writes the zones of a bit of the marks.
+#[tactic(auto, unfolding(crate::specs::Listing::bit_lines))]
 fn write_bit_lines(marks: &[u8], bit: u32, text: &mut [u8], at: usize) -> usize
     requires { (bit < length bit_letters) × (0 < length marks.now) × (length marks.now ≤ greatest_short_road + 1) }
     ensures { Put (bit_lines marks.now bit) at result text.old text.new }
@@ -119,6 +123,7 @@ fn write_zones_text(marks: &[u8], text: &mut [u8], at: usize) -> usize
 }
 
 // Writes the text of a road that is listed, from the place 0 on.
+#[tactic(auto, unfolding(crate::specs::Listing::road_text))]
 fn write_road(road: Road, text: &mut [u8]) -> usize
     requires { short_road_verdict road ≡ Accepted }
     ensures { Put (road_text road) 0 result text.old text.new }
@@ -134,6 +139,7 @@ fn write_road(road: Road, text: &mut [u8]) -> usize
 }
 
 // Writes the listing of a road file, from the place 0 on.
+#[tactic(auto, unfolding(crate::specs::Listing::listing))]
 fn write_listing(file: &[u8], text: &mut [u8]) -> usize
     ensures { Put (listing file.now) 0 result text.old text.new }
 {
@@ -148,6 +154,7 @@ fn write_listing(file: &[u8], text: &mut [u8]) -> usize
 
 // The listing of a road file, into `text` from byte 0 on. The answer is how many bytes are written. It is written aside first,
 // since its length decides whether it is refused.
+#[tactic(auto, unfolding(crate::specs::Listing::list_answer, crate::specs::Listing::list_buffer))]
 pub fn list_road_file(file: &[u8], text: &mut [u8]) -> Answer
     ensures answer { result ≡ list_answer file.now text.old }
     ensures list { text.new ≡ list_buffer file.now text.old }

@@ -26,6 +26,7 @@ fn compose(
 
 // The mark of station `i` in a direction. One search, up to the larger distance, serves both; a station that is judged for neither needs
 // none.
+#[tactic(auto, unfolding(crate::specs::Marks::mark_toward))]
 fn mark_of(heights: &[i32], back: bool, d: Distances, i: usize) -> u8
     requires { Markable heights.now d × (i < length heights.now) }
     ensures { result ≡ mark_toward heights.now back d i }
@@ -66,6 +67,7 @@ fn mark_of(heights: &[i32], back: bool, d: Distances, i: usize) -> u8
 }
 
 // The marks of `count` stations from `first` on in a direction, each into the place of its station, from the last one back.
+#[tactic(auto, unfolding(crate::specs::Marks::mark_toward))]
 fn fill_marks(
     heights: &[i32],
     back: bool,
@@ -85,6 +87,7 @@ fn fill_marks(
 }
 
 // Marks, from a speed, a decision purpose, a grade, which is that for rising stations, and heights, in a direction.
+#[tactic(auto, unfolding(crate::specs::Marks::marks_answer, crate::specs::Marks::marks_list))]
 pub fn marks(
     speed: u32,
     purpose: u32,

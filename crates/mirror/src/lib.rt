@@ -26,6 +26,7 @@ fn end_height(road: Road) -> i32
 
 // The mirror of an accepted road that ends at this height. `grade` is the grade in of curve `k`: with its sign changed it is that curve's
 // grade out in the mirror, and behind the last curve the mirror's first grade.
+#[tactic(auto, unfolding(crate::specs::Mirror::mirror))]
 fn mirror_from(road: Road, start: i32) -> Road
     requires { (road_verdict road ≡ Verdict.Accepted) × (start ≡ stored_height road road.length) }
     ensures { result ≡ mirror road }
@@ -57,6 +58,7 @@ fn mirror_from(road: Road, start: i32) -> Road
 }
 
 // The mirror of a road. Refused as the road is, then as its mirror is.
+#[tactic(auto, unfolding(crate::specs::Mirror::mirror_of))]
 pub fn mirror(road: Road) -> Mirrored
     ensures { result ≡ mirror_of road }
 {

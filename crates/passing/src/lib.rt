@@ -7,6 +7,7 @@ ghost use Rattle.passing.specs.Passing.{passing_mark, passing_answer, passing_li
 use terms::{Answer, Verdict};
 
 // The passing mark of station `i`. One that is not judged needs no search.
+#[tactic(auto, unfolding(crate::specs::Passing::passing_mark))]
 fn passing_mark(heights: &[i32], distance: u32, i: usize) -> u8
     requires { (length heights.now ≤ greatest_list) × (distance ≤ greatest_farthest) × (i < length heights.now) }
     ensures { result ≡ passing_mark heights.now distance i }
@@ -30,6 +31,7 @@ fn passing_mark(heights: &[i32], distance: u32, i: usize) -> u8
 }
 
 // The passing marks of all stations, each into the place of its station.
+#[tactic(auto, unfolding(crate::specs::Passing::passing_mark))]
 fn fill_passing(heights: &[i32], distance: u32, list: &mut [u8])
     requires { (length heights.now ≤ greatest_list) × (distance ≤ greatest_farthest) × (length heights.now ≤ length list.old) }
     ensures { list.new ≡ filled (passing_mark heights.now distance) 0 (length heights.now) list.old }
@@ -40,6 +42,7 @@ fn fill_passing(heights: &[i32], distance: u32, list: &mut [u8])
 }
 
 // Passing marks, from heights and a passing distance.
+#[tactic(auto, unfolding(crate::specs::Passing::passing_answer, crate::specs::Passing::passing_list))]
 pub fn passing_marks(heights: &[i32], distance: u32, list: &mut [u8]) -> Answer
     ensures answer { result ≡ passing_answer heights.now distance list.old }
     ensures list { list.new ≡ passing_list heights.now distance list.old }

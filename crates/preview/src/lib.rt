@@ -7,6 +7,7 @@ use road::Road;
 use terms::{Answer, Verdict};
 
 // At how many of the first so many places two lists differ.
+#[tactic(auto, unfolding(crate::specs::Preview::differing))]
 fn count_differing(first: &[u8], second: &[u8], stations: usize) -> u32
     requires { (stations ≤ greatest_short_road + 1) × (stations ≤ length first.now) × (stations ≤ length second.now) }
     ensures { result ≡ differing (λ i. get_or first.now i 0) (λ i. get_or second.now i 0) stations }
@@ -22,6 +23,7 @@ fn count_differing(first: &[u8], second: &[u8], stations: usize) -> u32
 
 // Marks a road of 8,000 m at most as it is into the first list and the road with another length of one curve into the second, and
 // answers at how many stations the marks differ. All is tested before anything is written.
+#[tactic(auto, unfolding(crate::specs::Preview::preview_answer, crate::specs::Preview::preview_first, crate::specs::Preview::preview_second))]
 pub fn preview(road: Road, place: u32, length: u32, first: &mut [u8], second: &mut [u8]) -> Answer
     ensures answer { result ≡ preview_answer road place length first.old second.old }
     ensures first { first.new ≡ preview_first road place length first.old second.old }

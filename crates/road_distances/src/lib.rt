@@ -45,6 +45,7 @@ pub fn road_grade(road: Road, back: bool) -> i32
 
 // What a road needs on that grade to stop and to decide, at its own speed and for its own purpose.
 #[tactic(auto, unfolding(crate::specs::RoadDistances::road_distances))]
+#[tactic(auto, unfolding(crate::specs::RoadDistances::road_distances))]
 pub fn road_distances(road: Road, back: bool) -> Distances
     ensures { result ≡ road_distances road back }
 {
