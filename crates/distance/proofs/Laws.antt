@@ -14,7 +14,7 @@ use Rattle.whole.proofs.Int.{var, nat, add, neg, mul, le_to, natural_is}
 use Rattle.whole.proofs.Table.{each_at, tabulated, tabulated_at}
 use Rattle.terms.specs.Answers.{outside, grade_outside}
 use Rattle.terms.specs.Limits.{least_speed, greatest_speed, stopping_purpose, last_purpose, greatest_grade}
-use Rattle.terms.proofs.Laws.{AtMost, GradeIn, value_at_most, refuse_at_most, inside, grade_inside}
+use Rattle.terms.proofs.Laws.{AtMost, GradeIn, value_at_most, refuse_at_most, inside, not_outside_in, grade_inside, grade_in}
 use Rattle.distance.specs.declared.Purpose.{Purpose}
 use Rattle.distance.specs.Distance.{purposes, purpose_row, metre_parts, level_parts, deceleration_parts, graded_parts, up_to_five, level_metres, graded_metres, metres_for, required_distance, distances_for}
 
@@ -111,6 +111,13 @@ pub metres_at_most : (v : ℕ) (p : Purpose) (g : ℤ) → v ≤ greatest_speed 
 unfolding metres_for
 metres_at_most v p g h k range =
     cond_at_most (p.braking && not (eqb (nat_abs g) 0)) (graded_at_most v p g h k range) (level_at_most v p h k)
+
+-- the same where the tests of the speed and the grade do not refuse it
+pub metres_small : (v p : ℕ) (g : ℤ) → outside least_speed greatest_speed v ≡ false → grade_outside g ≡ false →
+    metres_for v (purpose_row p) g ≤ 870
+metres_small v p g s u =
+    let speed = not_outside_in least_speed greatest_speed v s in
+    metres_at_most v (purpose_row p) g speed.1 (reaction_small p) (grade_in g u)
 
 pub required_at_most : (v p : ℕ) (g : ℤ) → AtMost 870 (required_distance v p g)
 unfolding required_distance

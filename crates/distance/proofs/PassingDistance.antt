@@ -88,3 +88,6 @@ module _ (w : Manoeuvre) (ranged : manoeuvre_outside w ≡ false) where
   pub passing_at_most : up_to_five (passing_parts w) passing_metre ≤ 930
   unfolding up_to_five
   passing_at_most = omega (arith, passing_parts_small, up_to_five_below (passing_parts w) passing_metre (omega arith))
+
+-- both bounds, as `passing_distance` uses them
+pub ruleset passing_bounds = (passing_parts_small, passing_at_most)

@@ -1,4 +1,6 @@
 // docs/RULES.md, "Distances a driver needs" and "Passing": the required sight distance, and the passing distance.
+#![tactic(auto)]
+
 ghost use Rattle.std.specs.Prelude.{◌≡◌, ◌<◌, ◌≤◌, false};
 ghost use Rattle.terms.specs.Answers.{grade_outside};
 ghost use Rattle.terms.specs.Limits.{least_speed, greatest_speed, last_purpose};
@@ -198,7 +200,7 @@ fn passing_parts(w: Manoeuvre) -> u64
 }
 
 // The distance that a driver needs to see to pass another car.
-#[tactic(auto, unfolding(crate::specs::PassingDistance::passing_distance))]
+#[tactic(auto, using(crate::proofs::PassingDistance::passing_bounds), unfolding(crate::specs::PassingDistance::passing_distance))]
 pub fn passing_distance(w: Manoeuvre) -> Answer
     ensures { result ≡ passing_distance w }
 {

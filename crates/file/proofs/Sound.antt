@@ -45,6 +45,13 @@ accepted_header s e =
     let third = or_no (differs s 0 || differs s 1) (differs s 2) spelled.0 in
     search (or_no (differs s 0) (differs s 1) third.0, no_difference, nltb→le)
 
+-- what reading the road in a file requires of it
+pub accepted_count : (s : List ℕ) → header_verdict s ≡ Accepted → curve_count s ≤ greatest_curve_count
+accepted_count s e = (accepted_header s e).count
+
+pub accepted_total : (s : List ℕ) → header_verdict s ≡ Accepted → length s ≡ file_length (version_in s) (curve_count s)
+accepted_total s e = (accepted_header s e).total
+
 -- ---- the file: its header, and the road in it
 pub record SoundFile (most : ℕ) (s : List ℕ) : Type 0 where
   pub header : SoundHeader s

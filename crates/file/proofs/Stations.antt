@@ -1,6 +1,6 @@
 -- Laws of the layout: a station has 2 to 4 bytes, the header of version 1 is the shorter one, and a file grows with its records, up to the
 -- longest.
-use Prim.Native.Nat.{ℕ, ◌*◌, ◌≤◌}
+use Prim.Native.Nat.{ℕ, ◌+◌, ◌*◌, ◌≤◌}
 use mathlib.Core.Bool.{Bool, true, false, cond}
 use mathlib.Core.Path.{◌≡◌, refl}
 use native.Mathlib.Nat.{mul-le-mul, le_refl}
@@ -35,3 +35,9 @@ longest_file version n few =
     let station = (station_size version).1 in
     let bytes : record_length version ≤ 8 = omega (arith, station) in
     omega (arith, station, second_station, mul-le-mul bytes few)
+
+-- the records of as many curves as one byte counts
+pub record_bytes : (station count version : ℕ) → station ≡ station_bytes version → count ≤ 255 → (station + 4) * count ≤ 2040
+record_bytes station count version e many =
+    let bytes : station + 4 ≤ 8 = omega (arith, (station_size version).1) in
+    omega (arith, mul-le-mul bytes many)

@@ -1,4 +1,6 @@
 // docs/RULES.md, "Road file": its layout in either version, and reading it. All numbers little-endian, signed ones two's complement.
+#![tactic(auto)]
+
 ghost use Rattle.std.specs.Prelude.{◌≡◌, ◌+◌, ◌^◌, ◌<◌, ◌≤◌, length, replicate};
 ghost use Rattle.std.specs.Int.{w16, w32};
 ghost use Rattle.std.proofs.Common.{to_z};
@@ -62,6 +64,7 @@ pub fn station_bytes(version: u32) -> usize
 }
 
 // The length of a file of this version with this many curves, and so where record `count` begins.
+#[tactic(auto, using(crate::proofs::Stations::station_size, crate::proofs::Stations::record_bytes))]
 pub fn file_length(version: u32, count: u8) -> usize
     ensures { result ≡ file_length version count }
 {
@@ -107,7 +110,7 @@ fn signed32(bits: u32) -> i32
 }
 
 // Record k of a file of this version: PVI, length, grade out.
-#[tactic(auto, unfolding(crate::specs::File::curve_at))]
+#[tactic(auto, using(crate::proofs::Stations::station_size), unfolding(crate::specs::File::curve_at))]
 fn curve_at(file: &[u8], version: u32, k: u8) -> Curve
     requires { file_length version (k + 1) ≤ length file.now }
     ensures { result ≡ curve_at version file.now k }
@@ -129,7 +132,7 @@ pub const NO_CURVE: Curve = Curve {
 };
 
 // Records 0 to n - 1, and zero in the other curve places.
-#[tactic(auto, unfolding(whole::specs::Fill::filled, crate::specs::File::curve_at))]
+#[tactic(auto, using(crate::proofs::Stations::records_within, whole::proofs::Fill::filled_next), unfolding(whole::specs::Fill::filled, crate::specs::File::curve_at))]
 fn curves_in(file: &[u8], version: u32, n: u8) -> [Curve; road::CURVE_PLACES]
     requires { (n ≤ greatest_curve_count) × (file_length version n ≤ length file.now) }
     ensures { result ≡ filled (curve_at version file.now) 0 n (replicate greatest_curve_count no_curve) }
@@ -142,7 +145,7 @@ fn curves_in(file: &[u8], version: u32, n: u8) -> [Curve; road::CURVE_PLACES]
 }
 
 // The road in a file whose length is that of its number of curves.
-#[tactic(auto, unfolding(crate::specs::File::road_in))]
+#[tactic(auto, using(crate::proofs::Stations::station_size), unfolding(crate::specs::File::road_in))]
 fn road_in(file: &[u8]) -> Road
     requires { (curve_count file.now ≤ greatest_curve_count) × (length file.now ≡ file_length (version_in file.now) (curve_count file.now)) }
     ensures { result ≡ road_in file.now }
@@ -176,7 +179,7 @@ pub const NO_ROAD: Road = Road {
 };
 
 // Refusals 1 to 5 of a file, by its header and its length.
-#[tactic(auto, unfolding(crate::specs::Reading::header_verdict))]
+#[tactic(auto, using(crate::proofs::Stations::station_size, crate::proofs::Stations::first_station), unfolding(crate::specs::Reading::header_verdict))]
 fn header_verdict(file: &[u8]) -> Verdict
     ensures { result ≡ header_verdict file.now }
 {
@@ -204,7 +207,7 @@ fn header_verdict(file: &[u8]) -> Verdict
 }
 
 // Reads a road file, where no road over `most` metres is taken. Refused by 1 to 5 as its header is, then as its road is.
-#[tactic(auto, unfolding(crate::specs::Reading::read_up_to))]
+#[tactic(auto, using(crate::proofs::Sound::accepted_count, crate::proofs::Sound::accepted_total), unfolding(crate::specs::Reading::read_up_to, crate::specs::Reading::read_verdict_up_to, crate::specs::File::no_road))]
 pub fn read(file: &[u8], most: u32) -> ReadRoad
     ensures { result ≡ read_up_to most file.now }
 {

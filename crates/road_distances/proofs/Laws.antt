@@ -1,8 +1,11 @@
 -- Laws of a road's grade and distances: the grade is the steepest of the road's grades and 0, and of an accepted road it is in its range.
-use Prim.Native.Nat.{◌≤◌}
+use Prim.Native.Nat.{ℕ, ◌+◌, ◌-◌, ◌≤◌, ◌<◌}
+use native.Mathlib.Omega.{arith}
+use lib.ListN.{length, drop, get_or}
+use lib.Seq.{drop-length}
 use mathlib.Core.Bool.{Bool, true, false, not, cond}
 use mathlib.Core.List.{List, [], ◌∷◌, map}
-use mathlib.Core.Path.{◌≡◌}
+use mathlib.Core.Path.{◌≡◌, refl}
 use lib.Dec.{T}
 use lib.IntN.{ℤ, pos}
 use lib.Signed.{◌≤ℤ◌, lt_z, lt_z_yes, lt_z_no, le_z_yes, ≤ℤ_refl}
@@ -14,9 +17,10 @@ use Rattle.directions.specs.Directions.{driven_grade}
 use Rattle.distance.proofs.Laws.{distances_at_most}
 use Rattle.road.specs.declared.Curve.{Curve}
 use Rattle.road.specs.declared.Road.{Road}
-use Rattle.road.specs.Road.{curves_of, road_verdict}
+use Rattle.road.specs.Road.{curves_of, no_curve, road_verdict}
 use Rattle.road.specs.Order.{CurveInRange}
 use Rattle.road.proofs.Accepted.{accepted_road}
+use Rattle.road.proofs.Places.{next_curve}
 use Rattle.road_distances.specs.RoadDistances.{grades_of, steeper, steepest_grade, road_grade, road_distances}
 
 -- ---- grades compared in a direction
@@ -78,6 +82,20 @@ steepest_grade_as_steep back [] = tt
 steepest_grade_as_steep back (g ∷ gs) =
     let both = steeper_both back g (steepest_grade back gs) in
     (both.0, each_map (λ (k : ℤ) (h : AsSteep back (steepest_grade back gs) k). as_steep_trans back _ _ k both.1 h) gs (steepest_grade_as_steep back gs))
+
+-- ---- the grades of the curves from a place on
+abbrev pub outs_from : Road → ℕ → List ℤ
+outs_from r i = map (λ (c : Curve). c.grade_out) (drop i (curves_of r))
+
+pub outs_none : (r : Road) (back : Bool) → steepest_grade back (outs_from r (length (curves_of r))) ≡ pos 0
+unfolding steepest_grade
+outs_none r back = rw drop-length refl
+
+-- from a place in use on: the grade there and those after it
+pub steepest_next : (r : Road) (back : Bool) (i : ℕ) → 0 < i → i ≤ length (curves_of r) →
+    steepest_grade back (outs_from r (i - 1)) ≡ steeper back (get_or r.curves (i - 1) no_curve).grade_out (steepest_grade back (outs_from r i))
+unfolding steepest_grade
+steepest_next r back i some h = let e : i - 1 + 1 ≡ i = omega arith in rw (next_curve r (i - 1) no_curve (omega arith), e) refl
 
 -- ---- an accepted road's grade is in its range
 outs_in : (cs : List Curve) → Each CurveInRange cs → Each GradeIn (map (λ (c : Curve). c.grade_out) cs)

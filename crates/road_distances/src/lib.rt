@@ -30,6 +30,7 @@ fn in_use(road: Road) -> usize
 
 // The least of a road's grades, the first one included, or 0 if none is negative; towards falling stations the greatest, or 0 if none
 // is positive.
+#[tactic(auto, unfolding(crate::specs::RoadDistances::steepest_grade))]
 pub fn road_grade(road: Road, back: bool) -> i32
     ensures { result ≡ road_grade road back }
 {
@@ -44,7 +45,6 @@ pub fn road_grade(road: Road, back: bool) -> i32
 }
 
 // What a road needs on that grade to stop and to decide, at its own speed and for its own purpose.
-#[tactic(auto, unfolding(crate::specs::RoadDistances::road_distances))]
 #[tactic(auto, unfolding(crate::specs::RoadDistances::road_distances))]
 pub fn road_distances(road: Road, back: bool) -> Distances
     ensures { result ≡ road_distances road back }

@@ -1,4 +1,6 @@
 // docs/RULES.md, "What can be seen": the quick engine, for sight from one station and for the sight profile.
+#![tactic(auto)]
+
 ghost use Rattle.std.specs.Prelude.{◌≡◌, ◌+◌, ◌≤◌, length};
 ghost use Rattle.terms.specs.Limits.{greatest_farthest, greatest_list};
 ghost use Rattle.whole.specs.Fill.{filled};
