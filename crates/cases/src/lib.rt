@@ -1,2 +1,4 @@
 // The table of the starred cases, specs/Cases.antt, proved of the definitions that the contracts cite:
 // `starred_cases` in proofs/Cases.antt.
+
+#![tactic(auto)]

@@ -1,4 +1,6 @@
 // docs/RULES.md, "Trying another length": a road with another length at one of its curves, and when that is accepted.
+#![tactic(auto)]
+
 ghost use Rattle.std.specs.Prelude.{◌≡◌};
 ghost use Rattle.change.specs.Change.{with_length, change_verdict};
 

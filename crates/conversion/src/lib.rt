@@ -1,5 +1,7 @@
 // docs/RULES.md, "Converting a file": a road file of either version made into one of the other, with the same road apart from its
 // version.
+#![tactic(auto)]
+
 ghost use Rattle.std.specs.Prelude.{◌≡◌};
 ghost use Rattle.conversion.specs.Conversion.{other_version, in_version, convert_answer, convert_list};
 

@@ -1,4 +1,6 @@
 // Converting a road file, exported for the command vcp and the tests. An answer is a signed number, and a refusal is minus its number.
+#![tactic(auto)]
+
 ghost use Rattle.std.specs.Prelude.{◌≡◌};
 ghost use Rattle.terms.specs.Answers.{signed};
 ghost use Rattle.conversion.specs.Conversion.{convert_answer, convert_list};

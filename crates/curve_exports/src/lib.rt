@@ -1,4 +1,6 @@
 // The sag length exported for the command vcp and the tests. An answer is a signed number, and a refusal is minus its number.
+#![tactic(auto)]
+
 ghost use Rattle.std.specs.Prelude.{◌≡◌};
 ghost use Rattle.terms.specs.Answers.{signed};
 ghost use Rattle.curve_lengths.specs.Lengths.{sag_length};

@@ -1,5 +1,7 @@
 // docs/RULES.md, "How long a crest must be" and "How long a sag must be": the least even length that is adequate and reaches the minimum
 // for a speed, by whole numbers alone.
+#![tactic(auto)]
+
 ghost use Rattle.std.specs.Prelude.{◌≡◌, ◌≤◌, ◌*◌};
 ghost use Rattle.curve_lengths.specs.Lengths.{within_root, adequate, long_enough, least_length, length_verdict, crest_length, sag_length};
 ghost use Rattle.curve_lengths.specs.Sizes.{Sized};

@@ -1,4 +1,6 @@
 // docs/RULES.md, "The lane coming back": the direction of travel. `back` is true towards falling stations.
+#![tactic(auto)]
+
 ghost use Rattle.std.specs.Prelude.{◌≡◌};
 ghost use Rattle.directions.specs.Directions.{counted, driven_grade};
 

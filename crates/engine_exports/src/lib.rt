@@ -1,5 +1,7 @@
 // The slow engine of sight, a station's sight and the sights of all, and how many sight lines the quick one compares, in a direction,
 // exported for the command vcp and the tests. An answer is a signed number, and a refusal is minus its number.
+#![tactic(auto)]
+
 ghost use Rattle.std.specs.Prelude.{◌≡◌};
 ghost use Rattle.terms.specs.Answers.{signed};
 ghost use Rattle.sight.specs.Operations.{sight_answer, profile_answer, profile_list};

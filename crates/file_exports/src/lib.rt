@@ -1,5 +1,7 @@
 // Road files exported for the command vcp and the tests: a file written again, and the heights and the steepest downgrade of a file's
 // road. An answer is a signed number, and a refusal is minus its number.
+#![tactic(auto)]
+
 ghost use Rattle.std.specs.Prelude.{◌≡◌};
 ghost use Rattle.terms.specs.Answers.{signed};
 ghost use Rattle.file_exports.specs.FileExports.{rewrite_answer, rewrite_list, file_heights_answer, file_heights_list, file_downgrade};

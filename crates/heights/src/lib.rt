@@ -1,4 +1,6 @@
 // docs/RULES.md, "The road and its heights", Heights: the heights along a road, station by station.
+#![tactic(auto)]
+
 ghost use Rattle.std.specs.Prelude.{◌+◌, ◌-◌, ◌≤◌, ◌<◌, [], ◌∷◌, ◌≡◌, length};
 ghost use Rattle.whole.specs.Fill.{filled};
 ghost use Rattle.whole.specs.Floor.{floor};

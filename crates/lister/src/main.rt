@@ -1,4 +1,6 @@
 // The road lister, docs/RULES.md, "The lister": reads a road file on standard input and prints its listing.
+#![tactic(auto)]
+
 ghost use Rattle.std.specs.Prelude.{◌≡◌, length, take};
 ghost use Rattle.io.specs.Counts.{IsPrefixLen};
 ghost use Rattle.listing.specs.Listing.{listing, EnoughToList, HoldsListings};

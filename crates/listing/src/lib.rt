@@ -1,4 +1,6 @@
 // docs/RULES.md, "The lister": the text of a road file.
+#![tactic(auto)]
+
 ghost use Rattle.std.specs.Prelude.{◌≡◌, [], ◌∷◌, ◌+◌, ◌*◌, ◌≤◌, ◌<◌, length};
 ghost use Rattle.terms.specs.Limits.{greatest_short_road};
 ghost use Rattle.terms.specs.declared.Verdict.TheVariants.{Accepted};

@@ -1,5 +1,7 @@
 // The listing exported for the command vcp and the tests: the text of a road file. An answer is a signed number, and a refusal is
 // minus its number.
+#![tactic(auto)]
+
 ghost use Rattle.std.specs.Prelude.{◌≡◌};
 ghost use Rattle.terms.specs.Answers.{signed};
 ghost use Rattle.listing.specs.Listing.{list_answer, list_buffer};

@@ -1,4 +1,6 @@
 // docs/RULES.md, "Marks and zones": the mark of a station, and the marks of heights.
+#![tactic(auto)]
+
 ghost use Rattle.std.specs.Prelude.{◌≡◌, ◌+◌, ◌<◌, ◌≤◌, length};
 ghost use Rattle.whole.specs.Fill.{filled};
 ghost use Rattle.marks.specs.Markable.{Markable};

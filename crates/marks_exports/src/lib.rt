@@ -1,5 +1,7 @@
 // Marks exported for the command vcp and the tests: the marks of heights in a direction, the distances that they are taken with, and the
 // zones of a bit of marks. An answer is a signed number, and a refusal is minus its number.
+#![tactic(auto)]
+
 ghost use Rattle.std.specs.Prelude.{◌≡◌};
 ghost use Rattle.terms.specs.Answers.{signed};
 ghost use Rattle.directions.specs.Directions.{driven_grade};

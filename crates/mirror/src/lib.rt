@@ -1,4 +1,6 @@
 // docs/RULES.md, "The lane coming back": the mirror of a road, which is the road as it is driven towards falling stations.
+#![tactic(auto)]
+
 ghost use Rattle.std.specs.Prelude.{◌≡◌};
 ghost use Rattle.road.specs.Road.{road_verdict};
 ghost use Rattle.heights.specs.Profile.{stored_height};

@@ -1,5 +1,7 @@
 // The mirror of a road file's road, exported for the tests: the file of the mirror. An answer is a signed number, and a refusal is minus
 // its number.
+#![tactic(auto)]
+
 ghost use Rattle.std.specs.Prelude.{◌≡◌};
 ghost use Rattle.terms.specs.Answers.{signed};
 ghost use Rattle.mirror_exports.specs.MirrorExports.{mirror_file_answer, mirror_file_list};

@@ -1,4 +1,6 @@
 // docs/RULES.md, "Passing": the passing mark of a station, and the passing marks of heights.
+#![tactic(auto)]
+
 ghost use Rattle.std.specs.Prelude.{◌≡◌, ◌<◌, ◌≤◌, length};
 ghost use Rattle.terms.specs.Limits.{greatest_list, greatest_farthest};
 ghost use Rattle.whole.specs.Fill.{filled};

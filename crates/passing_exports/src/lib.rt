@@ -1,5 +1,7 @@
 // Passing exported for the command vcp and the tests: the passing distance, and the passing marks of heights. An answer is a signed
 // number, and a refusal is minus its number.
+#![tactic(auto)]
+
 ghost use Rattle.std.specs.Prelude.{◌≡◌};
 ghost use Rattle.terms.specs.Answers.{signed};
 ghost use Rattle.distance.specs.PassingDistance.{passing_distance};

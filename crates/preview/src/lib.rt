@@ -1,4 +1,6 @@
 // docs/RULES.md, "Trying another length": the preview, which marks a road as it is and as changed and counts where the marks differ.
+#![tactic(auto)]
+
 ghost use Rattle.std.specs.Prelude.{◌+◌, ◌≤◌, ◌≡◌, length, get_or};
 ghost use Rattle.terms.specs.Limits.{greatest_short_road};
 ghost use Rattle.preview.specs.Preview.{differing, preview_answer, preview_first, preview_second};

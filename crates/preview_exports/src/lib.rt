@@ -1,5 +1,7 @@
 // Trying another length, exported for the command vcp and the tests: the file of the changed road, and the preview, both from a road
 // file. An answer is a signed number, and a refusal is minus its number.
+#![tactic(auto)]
+
 ghost use Rattle.std.specs.Prelude.{◌≡◌};
 ghost use Rattle.terms.specs.Answers.{signed};
 ghost use Rattle.preview_exports.specs.PreviewExports.{change_file_answer, change_file_list, preview_file_answer, preview_file_first, preview_file_second};

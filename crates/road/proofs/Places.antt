@@ -1,20 +1,14 @@
 -- The curve places of a road: from a place in use on come the curve there and the rest.
 use Prim.Native.Nat.{ℕ, ◌+◌, ◌≤◌, ◌<◌}
-use mathlib.Core.List.{List, ◌∷◌}
-use mathlib.Core.Path.{◌≡◌, refl, sym, ◌∙◌}
+use mathlib.Core.List.{◌∷◌}
+use mathlib.Core.Path.{◌≡◌, refl}
 use native.Mathlib.Numerals.{add-one}
 use native.Mathlib.Omega.{arith}
-use lib.ListN.{length, drop, get_or, length-map, length-take}
+use lib.ListN.{length, drop, get_or, length-take}
 use lib.Seq.{drop-cons, get_or-take, length-take-le}
-use mir.Val.{Val}
-use denote.Laws.{Is}
-use denote.Struct.Declared.{row}
-use Rattle.terms.specs.Limits.{greatest_curve_count}
 use Rattle.road.specs.declared.Curve.{Curve}
 use Rattle.road.specs.declared.Road.{Road}
 use Rattle.road.specs.Road.{curves_of}
-use Rattle.road.specs.contracts.Curve as curve
-use Rattle.road.specs.contracts.Road as road
 
 -- a place in use is one of the road's
 pub place_in_use : (r : Road) {i : ℕ} → r.count ≤ length r.curves → i < r.count → i < length (curves_of r)

@@ -1,4 +1,6 @@
 // docs/RULES.md, "The road and its heights" and "Road file": a road as a value, and its refusals.
+#![tactic(auto)]
+
 ghost use Rattle.std.specs.Prelude.{◌≤◌, min, ◌≡◌};
 ghost use Rattle.terms.specs.Limits.{greatest_curve_count};
 ghost use Rattle.road.specs.Road.{half, begin, end, start_of, curves_of, sharp_break, curve_verdict, curves_verdict, longest_road, numbers_verdict, verdict_up_to};

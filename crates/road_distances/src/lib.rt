@@ -1,4 +1,6 @@
 // docs/RULES.md, "Distances a driver needs": the grade that a road is marked with, and the distances that it needs on it.
+#![tactic(auto)]
+
 ghost use Rattle.std.specs.Prelude.{◌≡◌, length};
 ghost use Rattle.road.specs.Road.{curves_of};
 ghost use Rattle.road_distances.specs.RoadDistances.{steeper, road_grade, road_distances};

@@ -1,5 +1,7 @@
 // How a road file's road is marked and what it needs, in a direction, exported for the command vcp and the tests. An answer is a signed
 // number, and a refusal is minus its number.
+#![tactic(auto)]
+
 ghost use Rattle.std.specs.Prelude.{◌≡◌};
 ghost use Rattle.terms.specs.Answers.{signed};
 ghost use Rattle.terms.specs.Limits.{greatest_long_road};

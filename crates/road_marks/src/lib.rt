@@ -1,5 +1,7 @@
 // docs/RULES.md, "Marks and zones": the marks of a road and of a road file, up to 100,000 m in either direction, or up to 8,000 m towards
 // rising stations.
+#![tactic(auto)]
+
 ghost use Rattle.std.specs.Prelude.{◌≤◌, ◌<◌, ◌≡◌, length};
 ghost use Rattle.terms.specs.Limits.{greatest_short_road, greatest_long_road};
 ghost use Rattle.directions.specs.Directions.{forward};

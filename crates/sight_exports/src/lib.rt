@@ -1,5 +1,7 @@
 // Sight exported for the command vcp and the tests: a station's sight and the sights of all, in a direction. An answer is a signed
 // number, and a refusal is minus its number.
+#![tactic(auto)]
+
 ghost use Rattle.std.specs.Prelude.{◌≡◌};
 ghost use Rattle.terms.specs.Answers.{signed};
 ghost use Rattle.sight.specs.Operations.{sight_answer, profile_answer, profile_list};

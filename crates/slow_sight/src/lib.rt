@@ -1,6 +1,8 @@
 // docs/RULES.md, "What can be seen", the slow way, for anyone to follow: for each object station in turn, up to the first hidden one,
 // every station strictly between is looked at, and nothing is remembered from one object station to the next. The contracts are those
 // of the crate `sight`.
+#![tactic(auto)]
+
 ghost use Rattle.std.specs.Prelude.{◌≡◌, ◌+◌, ◌≤◌, ◌<◌, length};
 ghost use Rattle.terms.specs.Limits.{greatest_farthest};
 ghost use Rattle.whole.specs.Fill.{filled};

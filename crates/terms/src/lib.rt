@@ -1,5 +1,6 @@
 // The answer of an operation and the verdict on a road, the tests of ranges, and the limits and refusal numbers of
 // docs/RULES.md as the code names them. specs/Limits.antt and specs/Refusals.antt give the definitions the same numbers under the same names.
+#![tactic(auto)]
 
 ghost use Rattle.std.specs.Prelude.{◌≡◌};
 ghost use Rattle.terms.specs.Answers.{outside, grade_outside, list_outside, eye_or_object_outside, value_or_zero, signed};

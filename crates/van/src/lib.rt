@@ -1,5 +1,7 @@
 // What the survey van's Rust program calls (docs/RULES.md, "The lister"): functions on numbers and byte slices. An answer is
 // a signed 32-bit number, and a refusal is minus its number.
+#![tactic(auto)]
+
 ghost use Rattle.std.specs.Prelude.{◌≡◌};
 ghost use Rattle.terms.specs.Answers.{signed};
 ghost use Rattle.terms.specs.Limits.{greatest_short_road};

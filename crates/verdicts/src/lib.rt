@@ -1,5 +1,7 @@
 // docs/RULES.md, "What can be seen", "Marks and zones" and "Passing": the refusals of the operations over a list of heights, for each
 // engine, direction or stretch that shares them.
+#![tactic(auto)]
+
 ghost use Rattle.std.specs.Prelude.{◌≡◌};
 ghost use Rattle.verdicts.specs.Verdicts.{look_verdict, sight_verdict, profile_verdict, marks_verdict, passing_verdict};
 

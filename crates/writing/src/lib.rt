@@ -1,4 +1,6 @@
 // docs/RULES.md, "Road file": writing it. All numbers little-endian, signed ones two's complement.
+#![tactic(auto)]
+
 ghost use Rattle.std.specs.Prelude.{◌≡◌, ◌+◌, ◌≤◌, length};
 ghost use Rattle.std.specs.Int.{w16, w32};
 ghost use Rattle.std.proofs.Common.{of_z};
@@ -61,6 +63,7 @@ fn put_front(road: Road, buffer: &mut [u8]) -> usize
 }
 
 // Stores the header of a road, from place 0 on.
+#[tactic(auto, using(crate::proofs::Bytes::front_length))]
 fn put_header(road: Road, buffer: &mut [u8]) -> usize
     requires { file_length road.version 0 ≤ length buffer.old }
     ensures { Wrote (header_bytes road) 0 result buffer.old buffer.new }
@@ -72,6 +75,7 @@ fn put_header(road: Road, buffer: &mut [u8]) -> usize
 }
 
 // Stores the record of a curve in a file of this version, from place `at` on.
+#[tactic(auto, using(crate::proofs::Bytes::bytes_length))]
 fn put_curve(curve: Curve, version: u32, buffer: &mut [u8], at: usize) -> usize
     requires { at + record_length version ≤ length buffer.old }
     ensures { Wrote (curve_bytes version curve) at result buffer.old buffer.new }
@@ -83,6 +87,7 @@ fn put_curve(curve: Curve, version: u32, buffer: &mut [u8], at: usize) -> usize
 }
 
 // Stores the file of a road.
+#[tactic(auto, using(crate::proofs::Stored::record_fits))]
 fn put_file(road: Road, buffer: &mut [u8]) -> usize
     requires { (road.count ≤ greatest_curve_count) × (file_length road.version road.count ≤ length buffer.old) }
     ensures { Wrote (file_bytes road) 0 result buffer.old buffer.new }
@@ -97,6 +102,7 @@ fn put_file(road: Road, buffer: &mut [u8]) -> usize
 
 // Writes a road's file at the front of a buffer, and answers how many bytes that is. Refused as the road is, then by 14; the
 // buffer is then as it was.
+#[tactic(auto, using(crate::proofs::Stored::accepted_count, crate::proofs::Stored::accepted_length), unfolding(crate::specs::Writing::write_answer, crate::specs::Writing::write_list))]
 pub fn write(road: Road, buffer: &mut [u8]) -> Answer
     ensures answer { result ≡ write_answer road buffer.old }
     ensures list { buffer.new ≡ write_list road buffer.old }

@@ -1,4 +1,6 @@
 // docs/RULES.md, "Marks and zones": the zones of a bit.
+#![tactic(auto)]
+
 ghost use Rattle.std.specs.Prelude.{◌≡◌, ◌≤◌, ◌<◌, length};
 ghost use Rattle.whole.specs.Placed.{placed, Room, Wrote};
 ghost use Rattle.terms.specs.Limits.{last_bit};

@@ -16,4 +16,4 @@ returns-then-length c =
     let accepted : verdict_up_to a.most a.road ≡ Accepted = sym c.in_default.ensures in
     sym
     (rw (accepted, lt-leb a.road.count a.place (omega arith))
-      (changed_too_long a.most a.road places a.place a.length accepted (omega arith) (omega arith)))
+    (changed_too_long a.most a.road places a.place a.length accepted (omega arith) (omega arith)))

@@ -1,12 +1,12 @@
 -- `road_grade` meets its contract: a turn adds the grade of one curve more (`steepest_next`), and a grade of 16 bits is the same number
 -- when it is cast to 32 (`widens`).
-use Rattle.std.proofs.Common.{◌≡◌, ◌∙◌, ◌-◌, sym, arith, rules, ℤ, to_z, of_z, get_or}
+use Rattle.std.proofs.Common.{◌≡◌, ◌∙◌, ◌-◌, sym, arith, rules, ℤ, get_or}
 use mir.Syntax.{w16, w32}
 use mir.Val.{SFits}
 use Rattle.whole.proofs.Machine.{got, widens}
 use Rattle.road.specs.Road.{no_curve}
-use Rattle.road_distances.specs.RoadDistances.{steeper, steepest_grade, road_grade}
-use Rattle.road_distances.proofs.Laws.{outs_from, steepest_next}
+use Rattle.road_distances.specs.RoadDistances.{steepest_grade}
+use Rattle.road_distances.proofs.Laws.{steepest_next}
 use Rattle.road_distances.proofs.road_grade.Goals as goal
 
 pub loop-i-preserved : goal.loop-i-preserved
