@@ -30,7 +30,7 @@ fn in_version(version: u32, road: Road) -> Road
 
 // Writes the file of the other version at the front of a buffer, and answers how many bytes that is. Refused as reading is, then by
 // 27 and by 14; the buffer is then as it was.
-#[tactic(auto, unfolding(crate::specs::Conversion::convert_answer, crate::specs::Conversion::convert_list))]
+#[tactic(auto, using(file::proofs::Sound::verdict_read, file::proofs::Sound::road_read), unfolding(crate::specs::Conversion::convert_verdict, crate::specs::Conversion::convert_answer, crate::specs::Conversion::convert_list))]
 pub fn convert(file: &[u8], out: &mut [u8]) -> Answer
     ensures answer { result ≡ convert_answer file.now out.old }
     ensures list { out.new ≡ convert_list file.now out.old }
