@@ -8,12 +8,12 @@ use mathlib.Core.Path.{◌≡◌, refl, sym, ap, subst, ◌∙◌}
 use mathlib.Core.Bool.{Bool, true, false, cond, ◌||◌}
 use mathlib.Core.Logic.{◌↔◌, ◌⊎◌, inl, inr, ⊎_elim}
 use mir.Facts.{and_yes, yes_and}
-use borrow.Author.Tests.{le-leb, lt-leb, le-ltb, leb-true, leb-false, ltb-true}
+use borrow.Author.Tests.{le-leb, lt-leb, le-ltb, leb-true, leb-false, ltb-true, ltb-false}
 use lib.Dec.{T, leb, ltb, leb→le, le→leb}
 use lib.IntN.{pos, negsuc, ◌-ℤ◌, ◌*ℤ◌, sub_ℕ}
 use lib.Signed.{◌≤ℤ◌}
 use Rattle.terms.specs.Answers.{outside, eye_or_object_outside, refuse, fault, unless}
-use Rattle.terms.specs.Limits.{least_speed, greatest_speed, greatest_grade_change, greatest_sight_distance, greatest_answered_length}
+use Rattle.terms.specs.Limits.{least_speed, greatest_speed, greatest_grade_change, greatest_sight_distance, greatest_height, greatest_answered_length}
 use Rattle.terms.specs.Refusals.{speed_refused, grade_change_refused, sight_distance_refused, height_refused, no_length_refused}
 use Rattle.terms.proofs.Laws.{AtMost, refuse_at_most, unless_at_most, fault_byte, not_outside, not_outside_in, heights_not_outside, heights_in}
 use Rattle.terms.specs.declared.Answer.{Answer}
@@ -24,6 +24,7 @@ use Rattle.curve_lengths.specs.Lengths.{within_root, adequate, crest_adequate, s
 use Rattle.curve_lengths.specs.NeverFallsAway.{KeptByLonger, NeverFallsAway}
 use Rattle.curve_lengths.specs.NoneAdequate.{InRange, HeightsInRange, NoEvenLength, NoneAdequate}
 use Rattle.curve_lengths.specs.SagInequalities.{SagInequalities}
+use Rattle.curve_lengths.specs.Sizes.{Sized}
 
 -- ---- the root
 
@@ -284,6 +285,57 @@ least_length_none v test kept h =
           (refl, λ j k t. f (0 + 2 * j) (omega arith) (omega arith) ((long_enough_is v test (0 + 2 * j)).0 t).1)),
     )
 
+-- ---- a binary search over half lengths
+
+-- no half length below `low` passes the test, and `high` passes it or is past the last
+pub record Searched (test : ℕ → Bool) (low high : ℕ) : Type 0 where
+  pub ordered : low ≤ high
+  pub within : high ≤ greatest_answered_length / 2 + 1
+  pub below : (j : ℕ) → j < low → T (test (2 * j)) → ⊥
+  pub found : high ≤ greatest_answered_length / 2 → T (test (2 * high))
+
+-- a test of the middle moves one end: the upper where it passes, and the lower where it fails, since a longer curve passes where a shorter
+-- one does
+module _ (test : ℕ → Bool) (low high half : ℕ) (i : Searched test low high) where
+  pub searched_lower : low ≤ half → half < high → test (2 * half) ≡ true → Searched test low half
+  searched_lower h k t = record { ordered = h; within = omega (arith, i.within); below = i.below; found = λ _. rw t tt }
+
+  pub searched_upper : KeptByLonger test → half < high → test (2 * half) ≡ false → Searched test (half + 1) high
+  searched_upper kept h t =
+      record {
+        ordered = omega arith;
+        within = i.within;
+        found = i.found;
+        below = λ j k p. rw t at (kept (2 * j) (2 * half) (omega arith) p);
+      }
+
+-- where the ends meet they are the first that passes, or past the last: the answer is by where they are
+abbrev pub met_at : ℕ → Answer
+met_at high = refuse (ltb (greatest_answered_length / 2) high) no_length_refused (Number (2 * high))
+
+searched_met : (c : Bool) (test : ℕ → Bool) (low high : ℕ) → ltb (greatest_answered_length / 2) high ≡ c → Searched test low high →
+    high ≤ low → refuse c no_length_refused (Number (2 * high)) ≡ least_length test
+searched_met true test low high p i h =
+    least_length_only test (Refused no_length_refused)
+    (refl, λ j l t. i.below j (omega (arith, ltb-true _ _ p)) (subst (λ (x : ℕ). T (test x)) (omega arith) t))
+searched_met false test low high p i h =
+    least_length_only test (Number (2 * high))
+    (record {
+      index = high;
+      within = omega (arith, ltb-false _ _ p);
+      place = omega arith;
+      passes = i.found (ltb-false _ _ p);
+      before = λ j l t. i.below j (omega arith) (subst (λ (x : ℕ). T (test x)) (omega arith) t);
+    })
+
+-- a search under way, and what it answers once the ends meet
+pub record Search (test : ℕ → Bool) (low high : ℕ) : Type 0 where
+  pub searched : Searched test low high
+  pub met : high ≤ low → met_at high ≡ least_length test
+
+pub search_by : (test : ℕ → Bool) (low high : ℕ) → Searched test low high → Search test low high
+search_by test low high i = record { searched = i; met = searched_met _ test low high refl i }
+
 -- ---- the numbers' ranges
 
 -- an answer that is no refusal before 18
@@ -341,6 +393,17 @@ length_accepted v a s h =
 -- and so with the heights
 pub heights_in_range : (e o : ℕ) → eye_or_object_outside e o ≡ false → HeightsInRange e o
 heights_in_range e o p = let h = heights_in e o p in record { eye = h.0; object = h.1 }
+
+-- so they are as large as the search allows, if Q = u + √w is
+pub crest_sized : (v a s u w : ℕ) → length_verdict v a s ≡ Accepted → u ≤ 12000 + 350 * greatest_sight_distance →
+    w ≤ 16 * greatest_height * greatest_height → (v ≤ greatest_speed) × Sized a s u w
+crest_sized v a s u w p h k =
+    let r = length_in_range v a s p in
+    (r.speed.1, record { change = r.change.1; sight = r.sight.1; whole_part = h; under_root = k })
+
+pub sag_sized : (v a s u w : ℕ) → length_verdict v a s ≡ Accepted → u ≤ 12000 + 350 * s →
+    w ≤ 16 * greatest_height * greatest_height → (v ≤ greatest_speed) × Sized a s u w
+sag_sized v a s u w p h k = crest_sized v a s u w p (omega (arith, (length_in_range v a s p).sight.1)) k
 
 -- ---- an answer over any test of adequacy
 

@@ -36,7 +36,7 @@ fn adequate(a: u64, s: u64, u: u64, w: u64, l: u64) -> bool
 }
 
 // Whether the length l is long enough: it reaches the minimum for the speed v, and it is adequate.
-#[tactic(auto, unfolding(crate::specs::Lengths::long_enough, crate::specs::Lengths::adequate))]
+#[tactic(auto, unfolding(crate::specs::Lengths::long_enough, crate::specs::Lengths::reaches_minimum))]
 fn long_enough(v: u64, a: u64, s: u64, u: u64, w: u64, l: u64) -> bool
     requires { (v ≤ greatest_speed) × Sized a s u w × (l ≤ greatest_answered_length) }
     ensures { result ≡ long_enough v (adequate a s u w) l }
@@ -49,7 +49,6 @@ fn long_enough(v: u64, a: u64, s: u64, u: u64, w: u64, l: u64) -> bool
 
 // The least even length from 0 to 2,000 that is long enough, by a binary search over half the length: about ten lengths are
 // tested.
-#[tactic(auto, unfolding(crate::specs::Lengths::long_enough, crate::specs::Lengths::adequate))]
 fn least_length(v: u64, a: u64, s: u64, u: u64, w: u64) -> Answer
     requires { (v ≤ greatest_speed) × Sized a s u w }
     ensures { result ≡ least_length (long_enough v (adequate a s u w)) }

@@ -13,6 +13,7 @@ ghost use Rattle.sight.specs.Operations.{sight_toward, sight_answer, profile_ans
 use terms::{Answer, Verdict};
 
 // The height at place `k` of the stations as the driver meets them, docs/RULES.md, "The lane coming back".
+#[tactic(auto, using(directions::proofs::Laws::faced_at, directions::proofs::Laws::counted_below))]
 fn height_at(heights: &[i32], back: bool, k: usize) -> i32
     requires { k < length heights.now }
     ensures { result ≡ height_at (faced back heights.now) k }
@@ -59,6 +60,7 @@ fn available_sight(heights: &[i32], back: bool, i: usize, e: u32, o: u32, far: u
 }
 
 // The sight from a station in a direction: from the place at which the driver meets it.
+#[tactic(auto, using(directions::proofs::Laws::counted_below), unfolding(sight::specs::Operations::sight_toward))]
 fn sight_toward(heights: &[i32], back: bool, station: usize, e: u32, o: u32, far: usize) -> usize
     requires { (station < length heights.now) × (far ≤ greatest_farthest) }
     ensures { result ≡ sight_toward heights.now back station e o far }
@@ -68,6 +70,7 @@ fn sight_toward(heights: &[i32], back: bool, station: usize, e: u32, o: u32, far
 }
 
 // The walk of the sight profile, docs/RULES.md, "What can be seen": each station's place gets its sight.
+#[tactic(auto, using(whole::proofs::Fill::filled_next, sight::proofs::Toward::toward_le_far), unfolding(whole::specs::Fill::filled))]
 fn fill_sights(heights: &[i32], back: bool, e: u32, o: u32, far: usize, sights: &mut [u16])
     requires { (length heights.now ≤ length sights.old) × (far ≤ greatest_farthest) }
     ensures { sights.new ≡ filled (λ i. sight_toward heights.now back i e o far) 0 (length heights.now) sights.old }
@@ -78,6 +81,7 @@ fn fill_sights(heights: &[i32], back: bool, e: u32, o: u32, far: usize, sights: 
 }
 
 // Sight from one station in a direction, docs/RULES.md, "What can be seen".
+#[tactic(auto, using(sight::proofs::Toward::toward_le_far), unfolding(sight::specs::Operations::sight_answer))]
 pub fn sight(
     heights: &[i32],
     back: bool,
@@ -98,6 +102,7 @@ pub fn sight(
 }
 
 // The sight profile in a direction, docs/RULES.md, "What can be seen": every station's sight.
+#[tactic(auto, unfolding(sight::specs::Operations::profile_answer, sight::specs::Operations::profile_list))]
 pub fn profile(
     heights: &[i32],
     back: bool,

@@ -1,6 +1,6 @@
 -- Laws of zones. A station with the bit begins a zone or continues one, and ends it or leaves it open; from this the number of
 -- ends follows.
-use mathlib.Core.Path.{◌≡◌, refl}
+use mathlib.Core.Path.{◌≡◌, refl, sym}
 use mathlib.Core.Bool.{Bool, true, false, not, cond, ◌&&◌, and-true, and-false}
 use mathlib.Core.List.{List}
 use mathlib.Core.Logic.{⊎_elim}
@@ -11,11 +11,13 @@ use native.Mathlib.Numerals.{add-one}
 use native.Mathlib.Omega.{arith}
 use lib.Dec.{ltb}
 use lib.ListN.{length, length-append, get_or-eq_default}
+use Rattle.whole.specs.Placed.{placed, Wrote}
+use Rattle.whole.proofs.Placed.{wrote_filled}
 use Rattle.terms.specs.Answers.{list_outside, refuse}
 use Rattle.terms.specs.Limits.{last_bit}
 use Rattle.terms.specs.Refusals.{zone_room_refused}
 use Rattle.terms.specs.declared.Answer.TheVariants.{Number}
-use Rattle.zones.specs.Zones.{has_bit, begins_at, ends_at, only, zone_ends, zone_count, zones_answer}
+use Rattle.zones.specs.Zones.{has_bit, begins_at, ends_at, only, zone_ends, zone_count, zones_answer, zones_list}
 
 -- ---- counting
 -- one for a test that holds
@@ -119,3 +121,14 @@ pub zones_by_room : (marks zones : List ℕ) (b count : ℕ) → b ≤ last_bit 
     zones_answer marks b zones ≡ refuse (ltb (length zones) (2 * count)) zone_room_refused (Number count)
 unfolding zones_answer
 zones_by_room marks zones b count h l e = simp (le-ltb last_bit b h, l, e)
+
+-- and where there is room, the list is the ends placed from its front
+pub zones_list_placed : (marks zones : List ℕ) (b : ℕ) → b ≤ last_bit → list_outside (length marks) ≡ false →
+    2 * zone_count marks b (length marks) ≤ length zones →
+    zones_list marks b zones ≡ placed (zone_ends marks b (length marks)) 0 zones
+unfolding zones_list
+zones_list_placed marks zones b h l r =
+    let count = zone_count marks b (length marks) in let ends = zone_ends marks b (length marks) in
+    let all : Wrote ends 0 (length ends) zones (placed ends 0 zones) = record { behind = omega arith; text = refl } in
+    rw (zones_by_room marks zones b count h l refl, le-ltb (length zones) (2 * count) r)
+    (sym (rw zone_ends_twice at (wrote_filled all)))

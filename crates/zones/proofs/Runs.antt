@@ -69,7 +69,7 @@ module _ (marks : List ℕ) (b : ℕ) where
   step : (n : ℕ) (h k : Bool) → has_bit marks b n ≡ h → has_bit marks b (suc n) ≡ k → State n (zone_ends marks b n) →
       State (suc n) (zone_ends marks b (suc n))
   step n false k p q (between d o) =
-      rw (grown n false k false p q o, append-nil) (between (without d p) (rw p refl))
+      rw (grown n false k false p q o, append-nil (zone_ends marks b n)) (between (without d p) (rw p refl))
   step n true true p q (between d o) =
       rw (grown n true true false p q o)
       (within d (row_one n (rw (begins_unless_open n, p, o) refl) p) (rw (p, q) refl) refl)
@@ -78,7 +78,7 @@ module _ (marks : List ℕ) (b : ℕ) where
       (between (zone d (row_one n (rw (begins_unless_open n, p, o) refl) p) (rw (ends_next n, p, q) refl)) (rw (p, q) refl))
   step n false k p q (within d r o e) = absurd (not_both (open_at marks b n) o (not_open marks b n p))
   step n true true p q (within d r o e) =
-      rw (grown n true true true p q o, append-nil) (within d (row_more r p) (rw (p, q) refl) e)
+      rw (grown n true true true p q o, append-nil (zone_ends marks b n)) (within d (row_more r p) (rw (p, q) refl) e)
   step n true false p q (within {first} {before} d r o e) =
       rw (grown n true false true p q o, e, append_assoc)
       (between (zone d (row_more r p) (rw (ends_next n, p, q) refl)) (rw (p, q) refl))

@@ -42,7 +42,7 @@ fn ends_at(marks: &[u8], bit: u32, i: usize) -> bool
 }
 
 // How many zones there are.
-#[tactic(auto, unfolding(crate::specs::Zones::zone_count))]
+#[tactic(auto, using(crate::proofs::Laws::zones_at_most), unfolding(crate::specs::Zones::zone_count))]
 fn count_zones(marks: &[u8], bit: u32) -> usize
     requires { bit ≤ last_bit }
     ensures { result ≡ zone_count marks.now bit (length marks.now) }
@@ -57,6 +57,7 @@ fn count_zones(marks: &[u8], bit: u32) -> usize
 }
 
 // Stores a station at the place `at` where the test holds. The answer is the next place.
+#[tactic(auto, unfolding(whole::specs::Placed::placed))]
 fn put_if(test: bool, station: u32, list: &mut [u32], at: usize) -> usize
     requires { Room (only test station) at list.old }
     ensures { Wrote (only test station) at result list.old list.new }
@@ -83,7 +84,7 @@ fn write_zones(marks: &[u8], bit: u32, list: &mut [u32])
 }
 
 // The zones of a bit: the first and the last station of each, in pairs, ascending, into `list`. The answer is their number.
-#[tactic(auto, unfolding(crate::specs::Zones::zones_answer, crate::specs::Zones::zones_list))]
+#[tactic(auto, using(crate::proofs::Laws::zones_at_most), unfolding(crate::specs::Zones::zones_answer, crate::specs::Zones::zones_list))]
 pub fn zones(marks: &[u8], bit: u32, list: &mut [u32]) -> Answer
     ensures answer { result ≡ zones_answer marks.now bit list.old }
     ensures list { list.new ≡ zones_list marks.now bit list.old }
