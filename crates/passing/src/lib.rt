@@ -33,7 +33,7 @@ fn passing_mark(heights: &[i32], distance: u32, i: usize) -> u8
 }
 
 // The passing marks of all stations, each into the place of its station.
-#[tactic(auto, unfolding(crate::specs::Passing::passing_mark))]
+#[tactic(auto, using(whole::proofs::Fill::filled_none, whole::proofs::Fill::filled_next))]
 fn fill_passing(heights: &[i32], distance: u32, list: &mut [u8])
     requires { (length heights.now ≤ greatest_list) × (distance ≤ greatest_farthest) × (length heights.now ≤ length list.old) }
     ensures { list.new ≡ filled (passing_mark heights.now distance) 0 (length heights.now) list.old }
