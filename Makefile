@@ -1,6 +1,5 @@
-# The kits that the gate takes, as `rt version` names them.
-KIT := rattle-kit-5b logic 064da1ca440f63e7
-PLAIN_KIT := rattle-kit-5b-plain logic 097e4c862dff5811
+# The kit that the gate takes, as `rt version` names it.
+KIT := rattle-kit-13f logic dac8208d650f15bf
 
 SHELL := /bin/bash
 .SHELLFLAGS := -euo pipefail -c
@@ -18,16 +17,18 @@ PREFIX ?= /usr/local
 
 # The proved crates that Rust links, and what they are proved and built from.
 LIBRARIES := van curve_exports sight_exports engine_exports marks_exports passing_exports file_exports road_exports preview_exports listing_exports conversion_exports mirror_exports
-SOURCES := crates.txt $(shell find crates -type f)
+SOURCES := crates.txt $(shell find crates -name out -prune -o -type f -print)
 
-# Proves every crate from nothing, tries every must-fail edit and runs the lister; then links the proved functions into
-# the Rust tests and runs them. Where all went well the last line repeats that of `rt ci`.
+# Proves every crate, tries every must-fail edit and runs the lister; then links the proved functions into the Rust tests and runs
+# them. An edit that cannot be tried fails it too. Where all went well the last line repeats that of `rt ci`.
 test: tools
 	exec 2>&1
 	log=$$(mktemp)
 	trap 'rm -f "$$log"' EXIT
 	rt ci | tee "$$log"
-	printf '%s\n' $(LIBRARIES) | xargs -n 1 rt staticlib
+	grep -q '^rt: ok' "$$log"
+	if grep -E '^rt: ok.*, [0-9]+ bad' "$$log"; then exit 1; fi
+	tools/staticlib $(LIBRARIES)
 	cargo test --workspace --release --offline --quiet
 	tail -n 1 "$$log"
 
@@ -81,7 +82,7 @@ bench: vcp
 
 # Proves and builds a library for Rust, where what it is made from has changed.
 target/staticlib/lib%.a: $(SOURCES) | tools
-	$(call quietly,rt staticlib $*)
+	$(call quietly,tools/staticlib $*)
 
 # $(call quietly,COMMAND): runs the command, which makes the target, and shows what it says only where it fails.
 define quietly
@@ -95,14 +96,14 @@ endef
 # $(call need,TEST,MESSAGE): where the shell's test fails, make stops with the message.
 need = $(if $(shell ($1) >/dev/null 2>&1 && echo holds),,$(error $2))
 
-kit = $(call need,rt version | grep -qxF -e "$(KIT)" -e "$(PLAIN_KIT)",rt is not on the path or of another kit: install $(KIT))
+kit = $(call need,rt version | grep -qxF -e "$(KIT)",rt is not on the path or of another kit: install $(KIT))
 
 tools:
 	$(kit)
 	$(call need,command -v cargo,cargo is not on the path: install Rust)
 
 fmt:
-	rt fmt
+	for crate in crates/*/; do (cd "$$crate" && rt fmt); done
 	cargo fmt --all
 
 clean:
