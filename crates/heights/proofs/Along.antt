@@ -7,13 +7,15 @@ use borrow.Author.Tests.{le-leb, lt-leb}
 use native.Mathlib.Nat.{mul-le-mul_left}
 use native.Mathlib.Omega.{arith}
 use lib.IntN.{ℤ, pos, nat_abs, neg_ℤ, ◌+ℤ◌, ◌-ℤ◌, ◌*ℤ◌}
+use lib.ListN.{set}
 use mir.Syntax.{w16, w32}
-use mir.Val.{to_z, of_z}
+use mir.Val.{SFits, to_z, of_z}
 use Rattle.whole.specs.Fill.{filled}
 use Rattle.whole.specs.Floor.{floor_div, floor}
 use Rattle.whole.specs.Fractions.{whole}
-use Rattle.whole.proofs.Fill.{filled_then}
+use Rattle.whole.proofs.Fill.{filled_more, filled_then}
 use Rattle.whole.proofs.Floor.{floor_plus, floor_whole, floor_size_by}
+use Rattle.whole.proofs.Machine.{plain}
 use Rattle.whole.proofs.Range.{Reads, known_r, add_size, neg_size, mul_size, range_size}
 use Rattle.terms.specs.Limits.{highest_start, greatest_grade, greatest_long_road}
 use Rattle.road.specs.declared.Curve.{Curve}
@@ -25,7 +27,7 @@ use Rattle.heights.specs.Walk.{WalkInRange, CurveAhead, CurveHere, height_along,
 
 -- ---- sizes
 -- how far from zero a walk on a road can stand
-abbrev height_bound : ℕ
+abbrev pub height_bound : ℕ
 height_bound = nat_abs highest_start + greatest_grade * greatest_long_road
 
 pub grade_out_size : {c : Curve} → CurveInRange c → nat_abs c.grade_out ≤ greatest_grade
@@ -59,20 +61,34 @@ pub walk_same : {x y : ℕ} {h k f g : ℤ} → x ≡ y → h ≡ k → f ≡ g 
 walk_same e p q = rw (e, p, q) refl
 
 -- ---- on a curve
--- what the bend adds to the straight: at most the greatest grade a metre, half of what two grades can differ by
+-- what the bend adds to the straight, by how far the grades differ: at most half of that a metre
+pub turn_size : (t : ℤ) (b L d : ℕ) → nat_abs t ≤ 2 * b → d ≤ L → nat_abs (floor_div (t *ℤ pos d *ℤ pos d) (pos (2 * L))) ≤ b * d
+turn_size t b L d h l =
+    let once = mul_size t (pos d) (2 * b) d h (omega arith) in
+    let twice = mul_size (t *ℤ pos d) (pos d) (2 * b * d) d once (omega arith) in
+    let run = mul-le-mul_left (b * d) l in
+    floor_size_by (t *ℤ pos d *ℤ pos d) (2 * L) (b * d) (omega arith)
+
+-- at most the greatest grade a metre, half of what two grades can differ by
 pub bend_size : (gin gout : ℤ) (L d : ℕ) → nat_abs gin ≤ greatest_grade → nat_abs gout ≤ greatest_grade → d ≤ L →
     nat_abs (floor_div ((gout -ℤ gin) *ℤ pos d *ℤ pos d) (pos (2 * L))) ≤ greatest_grade * d
 bend_size gin gout L d hin hout l =
     let turn = add_size gout (neg_ℤ gin) _ _ hout (neg_size gin _ hin) in
-    let once = mul_size (gout -ℤ gin) (pos d) (2 * greatest_grade) d (omega arith) (omega arith) in
-    let twice = mul_size ((gout -ℤ gin) *ℤ pos d) (pos d) (2 * greatest_grade * d) d (omega arith) (omega arith) in
-    let run = mul-le-mul_left (greatest_grade * d) l in
-    floor_size_by ((gout -ℤ gin) *ℤ pos d *ℤ pos d) (2 * L) (greatest_grade * d) (omega arith)
+    turn_size (gout -ℤ gin) greatest_grade L d (omega arith) l
 
 -- the stored height there: the straight's, and the bend rounded down
 pub curve_floor : (z gin gout : ℤ) (L d : ℕ) → 0 < L →
     floor (on_curve z gin gout L d) ≡ straight z gin d +ℤ floor_div ((gout -ℤ gin) *ℤ pos d *ℤ pos d) (pos (2 * L))
 curve_floor z gin gout L d l = floor_plus (straight z gin d) ((gout -ℤ gin) *ℤ pos d *ℤ pos d) (omega arith)
+
+-- one station more of a row over the curve
+pub curve_more : (at : Walk) (c : Curve) (d : ℕ) (xs out : List ℤ) (v : ℤ) → out ≡ filled (height_over at c) (at.station + 1) d xs →
+    SFits w32 v → v ≡ floor (on_curve at.height at.grade c.grade_out c.length (d + 1)) →
+    set out (at.station + 1 + d) (to_z w32 (of_z w32 v)) ≡ filled (height_over at c) (at.station + 1) (d + 1) xs
+curve_more at c d xs out v p f e =
+    let metres : d + 1 ≡ at.station + 1 + d - at.station = omega arith in
+    filled_more (height_over at c) (at.station + 1) d xs out _ p
+    (plain f ∙ e ∙ ap (λ (n : ℕ). floor (on_curve at.height at.grade c.grade_out c.length n)) metres)
 
 -- ---- the exact profile at the next curve
 module _ (x₀ : ℕ) (z g : ℤ) (c : Curve) (cs : List Curve) (x : ℕ) where
@@ -109,6 +125,10 @@ curve_here {at} {c} h =
       here = omega (arith, p.even, p.from_zero);
       on_road = p.before_end;
     }
+
+-- the walk there
+pub foot_here : (at foot : Walk) (c : Curve) (b : ℕ) → CurveAhead at c → b ≡ begin c → foot ≡ along at b → CurveHere foot c
+foot_here at foot c b h e f = rw (f, e) (curve_here h)
 
 -- the walk at its end
 pub walk_in_range_past : (at : Walk) (c : Curve) → CurveAhead at c → WalkInRange (past at c)

@@ -2,3 +2,4 @@ pub mod Along
 pub mod Filled
 pub mod Profile
 pub mod Walked
+pub mod Steps

@@ -6,26 +6,30 @@ use mathlib.Core.Path.{◌≡◌, refl, sym, ap, ◌∙◌}
 use borrow.Author.Tests.{le-leb}
 use native.Mathlib.Omega.{arith}
 use lib.IntN.{ℤ, nat_abs}
-use lib.ListN.{length, drop, set}
+use lib.ListN.{length, drop, get_or, set}
 use lib.Seq.{drop-length, length-take-le}
+use mir.Syntax.{w16, w32}
+use mir.Val.{to_z, of_z}
 use Rattle.whole.specs.Fill.{filled}
 use Rattle.whole.specs.Floor.{floor}
 use Rattle.whole.specs.Fractions.{whole}
 use Rattle.whole.proofs.Fill.{filled_none, filled_next, filled_then}
 use Rattle.whole.proofs.Floor.{floor_whole}
 use Rattle.whole.proofs.Int.{var, reps, eq_by}
-use Rattle.whole.proofs.Range.{range_size}
+use Rattle.whole.proofs.Range.{same_by, range_size}
 use Rattle.whole.proofs.Table.{Each}
-use Rattle.terms.specs.Limits.{lowest_start, greatest_grade, greatest_long_road}
+use Rattle.terms.specs.Limits.{lowest_start, greatest_grade, greatest_curve_count, greatest_long_road}
+use Rattle.terms.specs.declared.Verdict.TheVariants.{Accepted}
 use Rattle.road.specs.declared.Curve.{Curve}
 use Rattle.road.specs.declared.Road.{Road}
-use Rattle.road.specs.Road.{begin, end, curves_of}
+use Rattle.road.specs.Road.{begin, end, no_curve, curves_of, road_verdict}
 use Rattle.road.specs.Order.{Placed, InOrder, CurveInRange}
-use Rattle.road.proofs.Accepted.{SoundRoad}
+use Rattle.road.proofs.Accepted.{SoundRoad, accepted_road}
+use Rattle.road.proofs.Places.{next_curve, place_in_use}
 use Rattle.heights.specs.declared.Walk.{Walk}
 use Rattle.heights.specs.Profile.{straight, exact_from, exact_height, stored_height}
-use Rattle.heights.specs.Walk.{WalkInRange, CurveAhead, height_along, exact_ahead, past}
-use Rattle.heights.proofs.Along.{exact_past, exact_upto, walk_in_range_past}
+use Rattle.heights.specs.Walk.{WalkInRange, StraightTo, CurveAhead, height_along, exact_ahead, past}
+use Rattle.heights.proofs.Along.{walk_read, exact_past, exact_upto, walk_in_range_past}
 
 -- past i curves of the road the walk stands at the end of the last: the heights after station 0 are filled up to there, and from
 -- there the exact profile goes on by the curves that are left, in order and in their ranges
@@ -39,6 +43,9 @@ pub record Walked (r : Road) (i : ℕ) (at : Walk) (first list : List ℤ) : Typ
   pub walk : WalkInRange at
 
 -- ---- the start
+pub accepted_road_length : (r : Road) → road_verdict r ≡ Accepted → r.length ≤ greatest_long_road
+accepted_road_length r e = (accepted_road r e).length_high
+
 -- no metre on, the height is the same
 pub straight_none : (z g : ℤ) → straight z g 0 ≡ z
 straight_none z g = let v = var z in let w = var g in eq_by (search reps) v (omega arith)
@@ -132,3 +139,48 @@ walked_all r at entry list out holds w e =
     filled_then f f f 0 1 1 r.length (r.length + 1) entry first out
     (filled_next f 0 entry entry r.start_height (filled_none f 0 entry) (stored_start r)) after (omega arith) (omega arith)
     (λ x _ _. refl) (λ x _ _. refl)
+
+-- ---- the same, as `fill_road` meets it: the road is accepted, and what was stored is read back from its bits
+module _ (r : Road) (e : road_verdict r ≡ Accepted) where
+  sound : SoundRoad greatest_long_road r
+  sound = accepted_road r e
+
+  start_read : to_z w32 (of_z w32 r.start_height) ≡ r.start_height
+  start_read = let w = walk_in_range_start r sound in same_by (walk_read w (omega arith)).height tt
+
+  grade_read : to_z w16 (of_z w16 r.first_grade) ≡ r.first_grade
+  grade_read = let w = walk_in_range_start r sound in same_by (walk_read w (omega arith)).grade tt
+
+  pub road_begun : (first : List ℤ) →
+      Walked r 0 record { station = 0; height = to_z w32 (of_z w32 r.start_height); grade = to_z w16 (of_z w16 r.first_grade) } first first
+  road_begun first = rw (start_read, grade_read) (walked_none r first sound)
+
+  pub road_count : r.count ≤ greatest_curve_count
+  road_count = sound.count
+
+  module _ (k : ℕ) (at : Walk) (first list : List ℤ) (w : Walked r k at first list) where
+    pub road_straight : StraightTo at r.length
+    road_straight = record { walk = w.walk; ahead = w.on_road; on_road = sound.length_high }
+
+    module _ (places : length r.curves ≡ greatest_curve_count) (more : k < r.count) where
+      next : drop k (curves_of r) ≡ get_or r.curves k no_curve ∷ drop (k + 1) (curves_of r)
+      next = next_curve r k no_curve (place_in_use r (omega (arith, sound.count)) more)
+
+      pub road_curve : CurveAhead at (get_or r.curves k no_curve)
+      road_curve = next_ahead r k at _ first list w sound.length_high next
+
+      pub road_curve_end : end (get_or r.curves k no_curve) ≤ r.length
+      road_curve_end = next_on_road r k at _ first list w sound.length_high next
+
+      pub road_more : (foot : Walk) (out : List ℤ) → foot ≡ past at (get_or r.curves k no_curve) →
+          out ≡ filled (λ x. floor (exact_ahead at (get_or r.curves k no_curve ∷ []) x)) (at.station + 1) (end (get_or r.curves k no_curve) - at.station) list →
+          Walked r (k + 1) foot first out
+      road_more foot out f p = rw f (walked_more r k at _ first list w sound.length_high next out more p)
+
+  pub road_filled : (k : ℕ) (at : Walk) (entry list out : List ℤ) → length r.curves ≡ greatest_curve_count →
+      Walked r k at (set entry 0 (to_z w32 (of_z w32 r.start_height))) list → r.count ≤ k →
+      out ≡ filled (height_along at) (at.station + 1) (r.length - at.station) list →
+      out ≡ filled (stored_height r) 0 (r.length + 1) entry
+  road_filled k at entry list out places w all p =
+      let last : k ≡ r.count = omega (arith, w.in_use) in
+      walked_all r at entry list out (omega (arith, sound.count)) (rw (start_read, last) at w) p

@@ -22,6 +22,7 @@ struct Walk {
 }
 
 // The height `d` metres on along the straight.
+#[tactic(auto, using(crate::proofs::Steps::straight_steps))]
 fn on_straight(at: Walk, d: u32) -> i32
     requires { WalkInRange at × (at.station + d ≤ greatest_long_road) }
     ensures { result ≡ straight at.height at.grade d }
@@ -30,6 +31,7 @@ fn on_straight(at: Walk, d: u32) -> i32
 }
 
 // The height `d` metres on along a curve that begins here, rounded down.
+#[tactic(auto, using(crate::proofs::Steps::curve_steps))]
 fn on_curve(at: Walk, c: Curve, d: u32) -> i32
     requires { CurveHere at c × (0 < d) × (d ≤ c.length) }
     ensures { result ≡ floor (on_curve at.height at.grade c.grade_out c.length d) }
@@ -56,7 +58,7 @@ fn fill_straight(at: Walk, to: u32, list: &mut [i32])
 }
 
 // Fills the stations after this one up to the end of a curve that begins here.
-#[tactic(auto, unfolding(whole::specs::Fill::filled))]
+#[tactic(auto, using(crate::proofs::Along::curve_more), unfolding(whole::specs::Fill::filled))]
 fn fill_curve(at: Walk, c: Curve, list: &mut [i32])
     requires { CurveHere at c × (end c < length list.old) }
     ensures { list.new ≡ filled (height_over at c) (at.station + 1) c.length list.old }
@@ -83,6 +85,7 @@ fn walk_along(at: Walk, to: u32) -> Walk
 }
 
 // The walk at the end of a curve that begins here.
+#[tactic(auto, using(crate::proofs::Steps::end_steps))]
 fn walk_over(at: Walk, c: Curve) -> Walk
     requires { CurveHere at c }
     ensures { result ≡ over at c }
@@ -96,7 +99,7 @@ fn walk_over(at: Walk, c: Curve) -> Walk
 }
 
 // Fills the stations after this one up to the end of the next curve, and answers the walk there.
-#[tactic(auto, unfolding(whole::specs::Fill::filled))]
+#[tactic(auto, using(crate::proofs::Along::foot_here))]
 fn past_curve(at: Walk, c: Curve, list: &mut [i32]) -> Walk
     requires { CurveAhead at c × (end c < length list.old) }
     ensures value { result ≡ past at c }
@@ -110,7 +113,6 @@ fn past_curve(at: Walk, c: Curve, list: &mut [i32]) -> Walk
 }
 
 // Fills the stations 0 to N: the curves as listed, then the straight after the last.
-#[tactic(auto, unfolding(whole::specs::Fill::filled, crate::specs::Profile::stored_height))]
 fn fill_road(road: Road, list: &mut [i32])
     requires { (road_verdict road ≡ Verdict.Accepted) × (road.length < length list.old) }
     ensures { list.new ≡ filled (stored_height road) 0 (road.length + 1) list.old }
@@ -131,7 +133,7 @@ fn fill_road(road: Road, list: &mut [i32])
 }
 
 // Heights: the first N + 1 places of the list are filled with the heights at stations 0 to N.
-#[tactic(auto, unfolding(crate::specs::Heights::heights_answer, crate::specs::Heights::heights_list))]
+#[tactic(auto, using(crate::proofs::Walked::accepted_road_length), unfolding(crate::specs::Heights::heights_answer, crate::specs::Heights::heights_list))]
 pub fn heights(road: Road, list: &mut [i32]) -> Answer
     ensures answer { result ≡ heights_answer road list.old }
     ensures list { list.new ≡ heights_list road list.old }
