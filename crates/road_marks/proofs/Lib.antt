@@ -1,3 +1,4 @@
 pub mod Ends
 pub mod OwnMarks
 pub mod Small
+pub mod Taken

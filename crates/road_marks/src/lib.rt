@@ -35,7 +35,7 @@ fn mark_up_to(road: Road, most: u32, back: bool, heights: &mut [i32], list: &mut
 }
 
 // Marks a road file in a direction, where no road over `most` metres is taken.
-#[tactic(auto, unfolding(crate::specs::RoadMarks::mark_file_answer, crate::specs::RoadMarks::mark_file_list))]
+#[tactic(auto, using(file::proofs::Sound::verdict_read, file::proofs::Sound::road_read), unfolding(crate::specs::RoadMarks::mark_file_answer, crate::specs::RoadMarks::mark_file_list))]
 fn mark_file_up_to(
     file: &[u8],
     most: u32,
@@ -56,7 +56,6 @@ fn mark_file_up_to(
 }
 
 // Marks a road in a direction.
-#[tactic(auto, unfolding(crate::specs::RoadMarks::mark_road_answer, crate::specs::RoadMarks::mark_road_list))]
 pub fn mark_road(road: Road, back: bool, list: &mut [u8]) -> Answer
     ensures answer { result ≡ mark_road_answer greatest_long_road road list.old }
     ensures list { list.new ≡ mark_road_list greatest_long_road road back list.old }
@@ -66,7 +65,6 @@ pub fn mark_road(road: Road, back: bool, list: &mut [u8]) -> Answer
 }
 
 // Marks, towards rising stations, a road of 8,000 m at most, over a list of heights that is laid out in less than a tenth of the time.
-#[tactic(auto, unfolding(crate::specs::RoadMarks::mark_road_answer, crate::specs::RoadMarks::mark_road_list))]
 pub fn mark_short_road(road: Road, list: &mut [u8]) -> Answer
     ensures answer { result ≡ mark_road_answer greatest_short_road road list.old }
     ensures list { list.new ≡ mark_road_list greatest_short_road road forward list.old }
@@ -77,7 +75,6 @@ pub fn mark_short_road(road: Road, list: &mut [u8]) -> Answer
 }
 
 // Marks a road file in a direction.
-#[tactic(auto, unfolding(crate::specs::RoadMarks::mark_file_answer, crate::specs::RoadMarks::mark_file_list))]
 pub fn mark_road_file(file: &[u8], back: bool, list: &mut [u8]) -> Answer
     ensures answer { result ≡ mark_file_answer greatest_long_road file.now list.old }
     ensures list { list.new ≡ mark_file_list greatest_long_road file.now back list.old }
@@ -87,7 +84,6 @@ pub fn mark_road_file(file: &[u8], back: bool, list: &mut [u8]) -> Answer
 }
 
 // Marks, towards rising stations, a road file whose road has 8,000 m at most.
-#[tactic(auto, unfolding(crate::specs::RoadMarks::mark_file_answer, crate::specs::RoadMarks::mark_file_list))]
 pub fn mark_short_road_file(file: &[u8], list: &mut [u8]) -> Answer
     ensures answer { result ≡ mark_file_answer greatest_short_road file.now list.old }
     ensures list { list.new ≡ mark_file_list greatest_short_road file.now forward list.old }
