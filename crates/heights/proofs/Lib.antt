@@ -1,5 +1,5 @@
 pub mod Along
 pub mod Filled
 pub mod Profile
-pub mod Walked
 pub mod Steps
+pub mod Walked

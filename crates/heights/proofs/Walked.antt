@@ -43,9 +43,6 @@ pub record Walked (r : Road) (i : ℕ) (at : Walk) (first list : List ℤ) : Typ
   pub walk : WalkInRange at
 
 -- ---- the start
-pub accepted_road_length : (r : Road) → road_verdict r ≡ Accepted → r.length ≤ greatest_long_road
-accepted_road_length r e = (accepted_road r e).length_high
-
 -- no metre on, the height is the same
 pub straight_none : (z g : ℤ) → straight z g 0 ≡ z
 straight_none z g = let v = var z in let w = var g in eq_by (search reps) v (omega arith)
@@ -154,6 +151,9 @@ module _ (r : Road) (e : road_verdict r ≡ Accepted) where
   pub road_begun : (first : List ℤ) →
       Walked r 0 record { station = 0; height = to_z w32 (of_z w32 r.start_height); grade = to_z w16 (of_z w16 r.first_grade) } first first
   road_begun first = rw (start_read, grade_read) (walked_none r first sound)
+
+  pub accepted_road_length : r.length ≤ greatest_long_road
+  accepted_road_length = sound.length_high
 
   pub road_count : r.count ≤ greatest_curve_count
   road_count = sound.count

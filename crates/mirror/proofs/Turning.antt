@@ -5,14 +5,23 @@ use mathlib.Core.List.{List, [], ◌∷◌, ◌++◌}
 use mathlib.Core.Path.{◌≡◌, refl, sym, ap, ◌∙◌}
 use native.Mathlib.Numerals.{add-one}
 use native.Mathlib.Omega.{arith}
-use lib.IntN.{ℤ}
-use lib.ListN.{length, take, drop, set, replicate, length-set, length-replicate, replicate-append-replicate}
+use lib.IntN.{ℤ, pos, neg_ℤ, ◌-ℤ◌, +ℤ_idl}
+use lib.ListN.{length, take, drop, get_or, set, replicate, length-set, length-replicate, replicate-append-replicate}
 use lib.Seq.{set_split, append_snoc, drop_at, drop-length, length-take-le}
-use Rattle.terms.specs.Limits.{greatest_curve_count}
+use mir.Syntax.{w16}
+use mir.Val.{SFits, to_z, of_z}
+use Rattle.whole.proofs.Machine.{plain}
+use Rattle.whole.proofs.Range.{Below, range_size, add_b, neg_b, nat_b, fits_by}
+use Rattle.terms.specs.Limits.{greatest_grade, greatest_curve_count, greatest_long_road}
+use Rattle.terms.specs.declared.Verdict.TheVariants.{Accepted}
 use Rattle.terms.proofs.Laws.{GradeIn}
 use Rattle.road.specs.declared.Curve.{Curve}
 use Rattle.road.specs.declared.Road.{Road}
-use Rattle.road.specs.Road.{curves_of, no_curve}
+use Rattle.road.specs.Road.{curves_of, no_curve, road_verdict}
+use Rattle.road.specs.Order.{Placed, CurveInRange}
+use Rattle.road.proofs.Accepted.{SoundRoad, accepted_road, accepted_curve_at}
+use Rattle.road.proofs.Places.{place_in_use, next_curve}
+use Rattle.heights.specs.Profile.{stored_height}
 use Rattle.mirror.specs.Mirror.{turned, mirrored, last_grade, mirror}
 
 -- the curves that are left, from place k on, come before those that are stored; the first of them has the grade in `grade`
@@ -68,3 +77,71 @@ turned_all r grade curves holds t =
     let none : drop r.count (curves_of r) ≡ [] = rw (length-take-le r.count r.curves holds) at (drop-length (curves_of r)) in
     let all : r.count - r.count ≡ 0 = omega arith in
     (rw none at t.last, rw (none, all) at t.stored)
+
+-- ---- a grade with the sign changed
+abbrev grade_size : {g : ℤ} → GradeIn g → Below g
+grade_size {g} h = record { b = greatest_grade; ok = range_size {a = greatest_grade} g (omega arith) h.0 h.1 }
+
+grade_read : {g : ℤ} → GradeIn g → to_z w16 (of_z w16 g) ≡ g
+grade_read h = let f : SFits w16 _ = fits_by (grade_size h) tt in plain f
+
+turned_fits : (g : ℤ) → GradeIn g → SFits w16 (pos 0 -ℤ g)
+turned_fits g h = fits_by (add_b (nat_b 0 (omega arith)) (neg_b (grade_size h))) tt
+
+turned_read : (g : ℤ) → GradeIn g → to_z w16 (of_z w16 (pos 0 -ℤ g)) ≡ neg_ℤ g
+turned_read g h = plain (turned_fits g h) ∙ +ℤ_idl (neg_ℤ g)
+
+-- ---- the same, as `mirror_from` meets it: the road is accepted, and what was stored is read back from its bits
+module _ (r : Road) (e : road_verdict r ≡ Accepted) where
+  sound : SoundRoad greatest_long_road r
+  sound = accepted_road r e
+
+  first_in : GradeIn r.first_grade
+  first_in = (sound.grade_low, sound.grade_high)
+
+  pub count_in : r.count ≤ greatest_curve_count
+  count_in = sound.count
+
+  pub mirror_begun : Turned r 0 (to_z w16 (of_z w16 r.first_grade)) (replicate greatest_curve_count no_curve)
+  mirror_begun = rw (grade_read first_in) (turned_none r sound.count first_in)
+
+  module _ (places : length r.curves ≡ greatest_curve_count) where
+    holds : r.count ≤ length r.curves
+    holds = omega (arith, sound.count)
+
+    here : (k : ℕ) → k < r.count → Placed r.length 0 (get_or r.curves k no_curve) × CurveInRange (get_or r.curves k no_curve)
+    here k more = accepted_curve_at greatest_long_road r e holds k no_curve more
+
+    pub pvi_on_road : (k : ℕ) → k < r.count → (get_or r.curves k no_curve).pvi ≤ r.length
+    pvi_on_road k more = omega (arith, (here k more).0.before_end)
+
+    pub mirror_more : (k : ℕ) (grade : ℤ) (curves : List Curve) → Turned r k grade curves → k < r.count →
+        Turned r (k + 1) (to_z w16 (of_z w16 (get_or r.curves k no_curve).grade_out))
+        (set curves (r.count - 1 - k) record {
+          pvi = r.length - (get_or r.curves k no_curve).pvi;
+          length = (get_or r.curves k no_curve).length;
+          grade_out = to_z w16 (of_z w16 (pos 0 -ℤ grade));
+        })
+    mirror_more k grade curves t more =
+        let range = (here k more).1 in let out : GradeIn (get_or r.curves k no_curve).grade_out = (range.grade_low, range.grade_high) in
+        rw (grade_read out, turned_read grade t.grade_in)
+        (turned_more r k grade curves _ t more sound.count (next_curve r k no_curve (place_in_use r holds more)) out)
+
+    pub mirror_done : (k : ℕ) (grade start : ℤ) (curves : List Curve) → Turned r k grade curves → r.count ≤ k → start ≡ stored_height r r.length →
+        ◌≡◌ {A = Road}
+        record {
+          version = r.version;
+          speed = r.speed;
+          purpose = r.purpose;
+          length = r.length;
+          start_height = start;
+          first_grade = to_z w16 (of_z w16 (pos 0 -ℤ grade));
+          count = r.count;
+          curves = curves;
+        }
+        (mirror r)
+    unfolding mirror
+    mirror_done k grade start curves t all begins =
+        let last : k ≡ r.count = omega (arith, t.in_use) in
+        let done = turned_all r grade curves holds (rw last at t) in
+        rw (begins, turned_read grade t.grade_in, done.0, done.1) refl

@@ -17,6 +17,7 @@ pub struct Mirrored {
 }
 
 // The height at the end of an accepted road.
+#[tactic(auto, using(heights::proofs::Walked::accepted_road_length))]
 fn end_height(road: Road) -> i32
     requires { road_verdict road ≡ Verdict.Accepted }
     ensures { result ≡ stored_height road road.length }
@@ -28,7 +29,7 @@ fn end_height(road: Road) -> i32
 
 // The mirror of an accepted road that ends at this height. `grade` is the grade in of curve `k`: with its sign changed it is that curve's
 // grade out in the mirror, and behind the last curve the mirror's first grade.
-#[tactic(auto, unfolding(crate::specs::Mirror::mirror))]
+#[tactic(auto, using(crate::proofs::Turning::count_in, crate::proofs::Turning::pvi_on_road))]
 fn mirror_from(road: Road, start: i32) -> Road
     requires { (road_verdict road ≡ Verdict.Accepted) × (start ≡ stored_height road road.length) }
     ensures { result ≡ mirror road }
@@ -60,7 +61,7 @@ fn mirror_from(road: Road, start: i32) -> Road
 }
 
 // The mirror of a road. Refused as the road is, then as its mirror is.
-#[tactic(auto, unfolding(crate::specs::Mirror::mirror_of))]
+#[tactic(auto, unfolding(crate::specs::Mirror::mirror_of, crate::specs::Mirror::mirror_verdict, file::specs::File::no_road))]
 pub fn mirror(road: Road) -> Mirrored
     ensures { result ≡ mirror_of road }
 {

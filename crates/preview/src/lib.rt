@@ -9,7 +9,7 @@ use road::Road;
 use terms::{Answer, Verdict};
 
 // At how many of the first so many places two lists differ.
-#[tactic(auto, unfolding(crate::specs::Preview::differing))]
+#[tactic(auto, using(crate::proofs::Differing::differing_at_most), unfolding(crate::specs::Preview::differing))]
 fn count_differing(first: &[u8], second: &[u8], stations: usize) -> u32
     requires { (stations ≤ greatest_short_road + 1) × (stations ≤ length first.now) × (stations ≤ length second.now) }
     ensures { result ≡ differing (λ i. get_or first.now i 0) (λ i. get_or second.now i 0) stations }

@@ -1,6 +1,7 @@
 -- `comparisons`: the walk over one station compares as many lines as the search from it does, which is at most two for each metre up to the
 -- farthest distance.
-use Rattle.std.proofs.Common.{◌≡◌, ◌+◌, ℕ, ap, ◌∙◌, length, arith}
+use Rattle.std.proofs.Common.{◌≡◌, ◌+◌, ◌*◌, ◌≤◌, ℕ, ℤ, Bool, List, ap, ◌∙◌, length, arith}
+use Rattle.terms.specs.Limits.{greatest_farthest}
 use Rattle.terms.specs.declared.Answer.TheVariants.{Number}
 use Rattle.terms.specs.declared.Verdict.TheVariants.{Accepted}
 use Rattle.verdicts.specs.Verdicts.{sight_verdict}
@@ -13,6 +14,10 @@ use Rattle.sight.proofs.comparisons.Goals as goal
 one_is : (f : ℕ → ℕ) (i : ℕ) → total (λ k. f (i + k)) 1 ≡ f i
 unfolding total
 one_is f i = let q : i + 0 ≡ i = omega arith in rw q (omega arith)
+
+one_most : (list : List ℤ) (back : Bool) (i e o far n : ℕ) → n ≡ total (λ k. comparisons_toward list back (i + k) e o far) 1 →
+    far ≤ greatest_farthest → n ≤ greatest_farthest * 2
+one_most list back i e o far n p l = omega (arith, comparisons_walk list back i e o far 1 l)
 
 pub fill_sights-compared-requires-clause-fits : goal.fill_sights-compared-requires-clause-fits
 fill_sights-compared-requires-clause-fits c =
@@ -31,7 +36,7 @@ overflow_cast-result c =
     let s = c.args in
     let accepted : sight_verdict (length s.heights.now) s.station s.eye s.object s.farthest ≡ Accepted = cc in
     let inside = sight_in_range _ _ _ _ _ accepted in
-    omega (arith, comparisons_walk s.heights.now s.back s.station s.eye s.object s.farthest 1 inside.2.farthest.1)
+    omega (arith, one_most _ _ _ _ _ _ _ c.fill_sights-compared.ensures.compared inside.2.farthest.1)
 
 pub returns : goal.returns
 unfolding comparisons_answer

@@ -78,6 +78,9 @@ module _ (list : List ℤ) (back : Bool) (station far : ℕ) {i e o run next bef
       let end : next ≤ min far (length (faced back list) - 1 - i) = rw (faced-length back list) p in
       rw (← here) (passed_hidden _ _ w end object, counted_hidden c w _ end road object)
 
+pub overflow_sub-road : goal.overflow_sub-road
+overflow_sub-road c = omega (arith, ints)
+
 pub overflow_mul-line : goal.overflow_mul-line
 overflow_mul-line c =
     let l = c.search in
