@@ -9,7 +9,7 @@ ghost use Rattle.file_exports.specs.FileExports.{rewrite_answer, rewrite_list, f
 use terms::{Answer, Verdict};
 
 #[unsafe(no_mangle)]
-#[tactic(auto, unfolding(crate::specs::FileExports::rewrite_answer, crate::specs::FileExports::rewrite_list))]
+#[tactic(auto, using(file::proofs::Sound::verdict_read, file::proofs::Sound::road_read), unfolding(crate::specs::FileExports::rewrite_answer, crate::specs::FileExports::rewrite_list))]
 pub extern "C" fn vcp_rewrite(file: &[u8], out: &mut [u8]) -> i64
     ensures answer { result ≡ signed (rewrite_answer file.now out.old) }
     ensures list { out.new ≡ rewrite_list file.now out.old }
@@ -24,7 +24,7 @@ pub extern "C" fn vcp_rewrite(file: &[u8], out: &mut [u8]) -> i64
 }
 
 #[unsafe(no_mangle)]
-#[tactic(auto, unfolding(crate::specs::FileExports::file_heights_answer, crate::specs::FileExports::file_heights_list))]
+#[tactic(auto, using(file::proofs::Sound::verdict_read, file::proofs::Sound::road_read), unfolding(crate::specs::FileExports::file_heights_answer, crate::specs::FileExports::file_heights_list))]
 pub extern "C" fn vcp_file_heights(file: &[u8], list: &mut [i32]) -> i64
     ensures answer { result ≡ signed (file_heights_answer file.now list.old) }
     ensures list { list.new ≡ file_heights_list file.now list.old }
@@ -41,7 +41,7 @@ pub extern "C" fn vcp_file_heights(file: &[u8], list: &mut [i32]) -> i64
 // The grade that the road is marked with is never positive, and towards falling stations never negative. A negative answer would be a
 // refusal: so it is answered without its sign.
 #[unsafe(no_mangle)]
-#[tactic(auto, unfolding(crate::specs::FileExports::file_downgrade))]
+#[tactic(auto, using(file::proofs::Sound::verdict_read, file::proofs::Sound::road_read), unfolding(crate::specs::FileExports::file_downgrade))]
 pub extern "C" fn vcp_file_downgrade(file: &[u8], back: bool) -> i64
     ensures { result ≡ signed (file_downgrade file.now back) }
 {

@@ -19,6 +19,7 @@ use Rattle.road_marks.specs.RoadMarks.{road_mark, mark_road_answer, mark_road_li
 use Rattle.zones.specs.Zones.{zone_ends, zone_count, zones_answer, zones_list}
 use Rattle.zones.proofs.Laws.{zones_at_most, zones_by_room}
 use Rattle.listing.specs.Listing.{joined, zone_lines, bit_letters, bit_lines, own_marks}
+use Rattle.listing.specs.Put.{Put}
 
 joined_cong : (f g : ℕ → List ℕ) (n : ℕ) → ((k : ℕ) → k < n → f k ≡ g k) → joined f n ≡ joined g n
 unfolding joined
@@ -26,7 +27,7 @@ joined_cong f g zero h = refl
 joined_cong f g (suc n) h = rw (joined_cong f g n (λ k l. h k (omega arith)), h n (omega arith)) refl
 
 -- ---- zones: the lines of the bit, by the number that `zones` answers and the list that it leaves
-pub zones_lines : (marks list ends : List ℕ) (b count : ℕ) → b < length bit_letters → 0 < length marks →
+zones_lines : (marks list ends : List ℕ) (b count : ℕ) → b < length bit_letters → 0 < length marks →
     length marks ≤ greatest_short_road + 1 → length list ≡ greatest_short_road + 2 → count ≡ value_or_zero (zones_answer marks b list) →
     ends ≡ zones_list marks b list →
     (zone_lines (get_or bit_letters b 0) ends count ≡ bit_lines marks b) × (2 * count ≤ length ends)
@@ -45,6 +46,15 @@ zones_lines marks list ends b count bit some short places e p =
       joined_cong _ _ (zone_count marks b n) (λ k l. rw (each (2 * k) (omega arith), each (2 * k + 1) (omega arith)) refl),
       omega (arith, ap length left ∙ filled-length _ 0 size list),
     )
+
+-- so a writer of the lines writes those of the bit, and the array has both ends of each
+module _ (marks list ends : List ℕ) (b count : ℕ) (bit : b < length bit_letters) (some : 0 < length marks) (short : length marks ≤ greatest_short_road + 1)
+    (places : length list ≡ greatest_short_road + 2) (e : count ≡ value_or_zero (zones_answer marks b list)) (p : ends ≡ zones_list marks b list) where
+  pub zones_within : 2 * count ≤ length ends
+  zones_within = (zones_lines marks list ends b count bit some short places e p).1
+
+  pub put_zones : {at n : ℕ} {xs ys : List ℕ} → Put (zone_lines (get_or bit_letters b 0) ends count) at n xs ys → Put (bit_lines marks b) at n xs ys
+  put_zones q = rw (zones_lines marks list ends b count bit some short places e p).0 at q
 
 -- ---- marks: the first N + 1 places of a list with room for them
 pub own_marks_front : (r : Road) (list out : List ℕ) → out ≡ mark_road_list greatest_short_road r forward list → short_road_verdict r ≡ Accepted → r.length + 1 ≤ length out →

@@ -27,6 +27,7 @@ pub const GREATEST_LISTING: usize = 22 + 14 * MOST_ZONES * LETTERS as usize;
 
 // Writes one byte at the place `at` of the text, where there is one. The answer, here and below, is the place behind what is
 // written; what has no room is left out.
+#[tactic(auto, using(crate::proofs::Put::set_beyond), unfolding(whole::specs::Placed::placed))]
 fn write_byte(byte: u8, text: &mut [u8], at: usize) -> usize
     ensures { Put (byte ∷ []) at result text.old text.new }
 {
@@ -38,6 +39,7 @@ fn write_byte(byte: u8, text: &mut [u8], at: usize) -> usize
 }
 
 // Writes a word, from the place `at` on.
+#[tactic(auto, using(crate::proofs::Put::put_word), unfolding(whole::specs::Placed::placed))]
 fn write_word(word: &[u8], text: &mut [u8], at: usize) -> usize
     ensures { Put word.now at result text.old text.new }
 {
@@ -49,7 +51,7 @@ fn write_word(word: &[u8], text: &mut [u8], at: usize) -> usize
 }
 
 // Writes the digit of the place that counts `p`, or nothing where `x` is below it.
-#[tactic(auto, unfolding(crate::specs::Listing::digit))]
+#[tactic(auto, unfolding(whole::specs::Placed::placed, crate::specs::Listing::digit))]
 fn write_digit(p: u32, x: u32, text: &mut [u8], at: usize) -> usize
     requires { 0 < p }
     ensures { Put (digit p x) at result text.old text.new }
@@ -61,7 +63,6 @@ fn write_digit(p: u32, x: u32, text: &mut [u8], at: usize) -> usize
 }
 
 // Writes a space and a number below 100,000.
-#[tactic(auto, unfolding(crate::specs::Listing::item))]
 fn write_item(x: u32, text: &mut [u8], at: usize) -> usize
     ensures { Put (item x) at result text.old text.new }
 {
@@ -74,7 +75,7 @@ fn write_item(x: u32, text: &mut [u8], at: usize) -> usize
 }
 
 // Writes a line of a word and numbers.
-#[tactic(auto, unfolding(crate::specs::Listing::line))]
+#[tactic(auto, unfolding(whole::specs::Placed::placed, crate::specs::Listing::joined))]
 fn write_line(word: &[u8], numbers: &[u32], text: &mut [u8], at: usize) -> usize
     ensures { Put (line word.now numbers.now) at result text.old text.new }
 {
@@ -86,6 +87,7 @@ fn write_line(word: &[u8], numbers: &[u32], text: &mut [u8], at: usize) -> usize
 }
 
 // Writes the lines of the first `count` zones of a letter, whose first and last stations stand in `ends`.
+#[tactic(auto, unfolding(whole::specs::Placed::placed, crate::specs::Listing::joined))]
 fn write_zone_lines(letter: u8, ends: &[u32], count: usize, text: &mut [u8], at: usize) -> usize
     requires { 2 * count ≤ length ends.now }
     ensures { Put (zone_lines letter ends.now count) at result text.old text.new }
@@ -100,7 +102,6 @@ fn write_zone_lines(letter: u8, ends: &[u32], count: usize, text: &mut [u8], at:
 }
 
 // Writes the zones of a bit of the marks.
-#[tactic(auto, unfolding(crate::specs::Listing::bit_lines))]
 fn write_bit_lines(marks: &[u8], bit: u32, text: &mut [u8], at: usize) -> usize
     requires { (bit < length bit_letters) × (0 < length marks.now) × (length marks.now ≤ greatest_short_road + 1) }
     ensures { Put (bit_lines marks.now bit) at result text.old text.new }
@@ -113,6 +114,7 @@ fn write_bit_lines(marks: &[u8], bit: u32, text: &mut [u8], at: usize) -> usize
 }
 
 // Writes the zones of all letters.
+#[tactic(auto, unfolding(whole::specs::Placed::placed, crate::specs::Listing::joined))]
 fn write_zones_text(marks: &[u8], text: &mut [u8], at: usize) -> usize
     requires { (0 < length marks.now) × (length marks.now ≤ greatest_short_road + 1) }
     ensures { Put (zones_text marks.now) at result text.old text.new }
@@ -125,7 +127,7 @@ fn write_zones_text(marks: &[u8], text: &mut [u8], at: usize) -> usize
 }
 
 // Writes the text of a road that is listed, from the place 0 on.
-#[tactic(auto, unfolding(crate::specs::Listing::road_text))]
+#[tactic(auto, using(road::proofs::Accepted::accepted_road))]
 fn write_road(road: Road, text: &mut [u8]) -> usize
     requires { short_road_verdict road ≡ Accepted }
     ensures { Put (road_text road) 0 result text.old text.new }

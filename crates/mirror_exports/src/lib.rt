@@ -9,7 +9,7 @@ ghost use Rattle.mirror_exports.specs.MirrorExports.{mirror_file_answer, mirror_
 use terms::{Answer, Verdict};
 
 #[unsafe(no_mangle)]
-#[tactic(auto, unfolding(crate::specs::MirrorExports::mirror_file_answer, crate::specs::MirrorExports::mirror_file_list))]
+#[tactic(auto, unfolding(crate::specs::MirrorExports::mirror_file_answer, crate::specs::MirrorExports::mirror_file_list, crate::specs::MirrorExports::mirror_file_verdict, mirror::specs::Mirror::mirror_of, file::specs::Reading::read_up_to))]
 pub extern "C" fn vcp_mirror(file: &[u8], out: &mut [u8]) -> i64
     ensures answer { result ≡ signed (mirror_file_answer file.now out.old) }
     ensures list { out.new ≡ mirror_file_list file.now out.old }

@@ -9,7 +9,7 @@ ghost use Rattle.preview_exports.specs.PreviewExports.{change_file_answer, chang
 use terms::{Answer, Verdict};
 
 #[unsafe(no_mangle)]
-#[tactic(auto, unfolding(crate::specs::PreviewExports::change_file_answer, crate::specs::PreviewExports::change_file_list))]
+#[tactic(auto, using(file::proofs::Sound::verdict_read, file::proofs::Sound::road_read), unfolding(crate::specs::PreviewExports::change_file_verdict, crate::specs::PreviewExports::change_file_answer, crate::specs::PreviewExports::change_file_list))]
 pub extern "C" fn vcp_change_length(file: &[u8], place: u32, length: u32, out: &mut [u8]) -> i64
     ensures answer { result ≡ signed (change_file_answer file.now place length out.old) }
     ensures list { out.new ≡ change_file_list file.now place length out.old }
@@ -33,7 +33,7 @@ pub extern "C" fn vcp_change_length(file: &[u8], place: u32, length: u32, out: &
 }
 
 #[unsafe(no_mangle)]
-#[tactic(auto, unfolding(crate::specs::PreviewExports::preview_file_answer, crate::specs::PreviewExports::preview_file_first, crate::specs::PreviewExports::preview_file_second))]
+#[tactic(auto, using(file::proofs::Sound::verdict_read, file::proofs::Sound::road_read), unfolding(crate::specs::PreviewExports::preview_file_answer, crate::specs::PreviewExports::preview_file_first, crate::specs::PreviewExports::preview_file_second))]
 pub extern "C" fn vcp_preview(
     file: &[u8],
     place: u32,

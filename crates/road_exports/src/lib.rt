@@ -21,7 +21,7 @@ pub extern "C" fn vcp_mark_file(file: &[u8], back: bool, marks: &mut [u8]) -> i6
 
 // The distance that the road needs for a purpose, at its own speed and on the grade that it is marked with.
 #[unsafe(no_mangle)]
-#[tactic(auto, unfolding(crate::specs::RoadExports::file_distance))]
+#[tactic(auto, using(file::proofs::Sound::verdict_read, file::proofs::Sound::road_read), unfolding(crate::specs::RoadExports::file_distance))]
 pub extern "C" fn vcp_file_distance(file: &[u8], back: bool, purpose: u32) -> i64
     ensures { result ≡ signed (file_distance file.now back purpose) }
 {
@@ -37,7 +37,7 @@ pub extern "C" fn vcp_file_distance(file: &[u8], back: bool, purpose: u32) -> i6
 
 // The stations of a road that the lister, the preview and the van's marking take.
 #[unsafe(no_mangle)]
-#[tactic(auto, unfolding(crate::specs::RoadExports::short_stations))]
+#[tactic(auto, using(file::proofs::Sound::verdict_read, file::proofs::Sound::road_read), unfolding(crate::specs::RoadExports::short_stations))]
 pub extern "C" fn vcp_short_stations(file: &[u8]) -> i64
     ensures { result ≡ signed (short_stations file.now) }
 {
