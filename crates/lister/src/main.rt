@@ -2,20 +2,30 @@
 #![tactic(auto)]
 
 ghost use Rattle.std.specs.Prelude.{◌≡◌, length, take};
-ghost use Rattle.io.specs.Counts.{IsPrefixLen};
+ghost use Rattle.std.specs.Counts.{IsPrefixLen};
+ghost use Rattle.std.specs.Io.{ReadsAtMost};
 ghost use Rattle.listing.specs.Listing.{listing, EnoughToList, HoldsListings};
 
-use libc::{STDIN_FILENO, STDOUT_FILENO};
+use std::io::{self, Read};
 
-// Reads standard input until the bytes are full or it ends, and answers how many were read. What does not fit is not needed.
-fn read_file(bytes: &mut [u8]) -> usize
+// Reads until the bytes are full or the input ends, and answers how many were read. What does not fit is not needed.
+fn read_file<R: Read>(input: &mut R, bytes: &mut [u8]) -> io::Result<usize>
     requires { EnoughToList (length bytes.old) }
-    ensures { IsPrefixLen result bytes.new }
+    ensures { ReadsAtMost result bytes.new }
 {
-    io::read_full(STDIN_FILENO, bytes)
+    let mut read = 0;
+    while read < bytes.len() {
+        let more = input.read(&mut bytes[read..])?;
+        if more == 0 {
+            break;
+        }
+        read += more;
+    }
+    Ok(read)
 }
 
 // Puts the listing of a file at the front of a text that holds any, and answers how many bytes it has.
+#[tactic(auto, using(listing::proofs::Whole::listing_whole))]
 fn list(file: &[u8], text: &mut [u8]) -> usize
     requires { HoldsListings (length text.old) }
     ensures count { IsPrefixLen result text.new }
@@ -24,10 +34,11 @@ fn list(file: &[u8], text: &mut [u8]) -> usize
     terms::value_or_zero(listing::list_road_file(file, text)) as usize
 }
 
-fn main() {
+#[tactic(auto, using(listing::proofs::Front::listing_front, listing::proofs::Longest::listing_at_most), unfolding(file::specs::File::station_bytes))]
+fn main(rt: HostRuntime) -> io::Result<()> {
     let mut bytes = [0u8; file::ENOUGH_BYTES];
-    let read = read_file(&mut bytes);
+    let read = read_file(&mut rt.stdin(), &mut bytes)?;
     let mut text = [0u8; listing::GREATEST_LISTING];
     let length = list(&bytes[..read], &mut text);
-    io::write_all(STDOUT_FILENO, &text[..length]);
+    rt.stdout().write_all(&text[..length])
 }
