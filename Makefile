@@ -28,7 +28,7 @@ test: tools
 	rt ci | tee "$$log"
 	grep -q '^rt: ok' "$$log"
 	if grep -E '^rt: ok.*, [0-9]+ bad' "$$log"; then exit 1; fi
-	tools/staticlib $(LIBRARIES)
+	tools/build lister $(LIBRARIES)
 	cargo test --workspace --release --offline --quiet
 	tail -n 1 "$$log"
 
@@ -82,7 +82,7 @@ bench: vcp
 
 # Proves and builds a library for Rust, where what it is made from has changed.
 target/staticlib/lib%.a: $(SOURCES) | tools
-	$(call quietly,tools/staticlib $*)
+	$(call quietly,tools/build $*)
 
 # $(call quietly,COMMAND): runs the command, which makes the target, and shows what it says only where it fails.
 define quietly

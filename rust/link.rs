@@ -3,7 +3,7 @@
 use std::env;
 use std::path::Path;
 
-/// Links target/staticlib/libNAME.a, which `tools/staticlib NAME` writes, for each of these proved crates.
+/// Links target/staticlib/libNAME.a, which `tools/build NAME` writes, for each of these proved crates.
 fn link(crates: &[&str]) {
     let package = env::var("CARGO_MANIFEST_DIR").expect("cargo names the package's folder");
     let root = Path::new(&package).ancestors().nth(2).expect("the package stands in the repository's folder rust");
@@ -15,7 +15,7 @@ fn link(crates: &[&str]) {
         if archive.is_file() {
             println!("cargo::rustc-link-lib=static={name}");
         } else {
-            println!("cargo::error={} is missing: run `tools/staticlib {name}` first", archive.display());
+            println!("cargo::error={} is missing: run `tools/build {name}` first", archive.display());
         }
     }
 }

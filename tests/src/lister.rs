@@ -1,4 +1,4 @@
-//! The lister, which `rt ci` proved and built.
+//! The lister, which `tools/build lister` builds.
 
 use std::io::Write;
 use std::path::PathBuf;

@@ -72,8 +72,10 @@ fn handed_over([name, kind]: [&str; 2]) -> Vec<Argument> {
 /// The functions that a Rattle source exports.
 fn exported(source: &str) -> Vec<Function> {
     let code = code(source);
-    let exports = code.split("#[no_mangle]").skip(1).map(|after| {
-        let text = after.trim_start().strip_prefix("pub extern \"C\" fn ").expect("an exported function is `extern`");
+    let exports = code.split("#[unsafe(no_mangle)]").skip(1).map(|after| {
+        let lines = after.trim_start().split_inclusive('\n').skip_while(|line| line.starts_with("#[tactic("));
+        let text: String = lines.collect();
+        let text = text.strip_prefix("pub extern \"C\" fn ").expect("an exported function is `extern`");
         let (name, parameters, answer) = signature(text);
         let arguments = parameters.into_iter().flat_map(handed_over).collect();
         Function { name: name.to_string(), arguments, answer: answer.to_string() }

@@ -51,15 +51,15 @@ fn links_name_what_is_there() {
     assert!(found > 15, "{found} links");
 }
 
-/// The laws that a text names between backquotes, each with its type where it is named too, as in `accuracy : AccuracyRule`. A
-/// law's name is of small words with hyphens between.
-fn laws(text: &str) -> Vec<(&str, Option<&str>)> {
-    let named = quoted(text)
+/// The laws that a line of a document names between backquotes: those with their type, as in `accuracy : AccuracyRule`, and in a row of
+/// a table that links to proofs those of the first column.
+fn laws(line: &str) -> Vec<(&str, Option<&str>)> {
+    let row = line.strip_prefix('|').filter(|_| links(line).iter().any(|(_, link)| link.contains("/proofs/")));
+    let first = row.and_then(|row| row.split('|').next()).map_or(Vec::new(), quoted);
+    let named = quoted(line)
         .into_iter()
         .map(|name| name.split_once(" : ").map_or((name, None), |(law, kind)| (law, Some(kind))));
-    let of_words =
-        |law: &str| law.split('-').all(|word| !word.is_empty() && word.bytes().all(|byte| byte.is_ascii_lowercase()));
-    named.filter(|(law, kind)| of_words(law) && (law.contains('-') || kind.is_some())).collect()
+    named.filter(|(law, kind)| kind.is_some() || first.contains(law)).collect()
 }
 
 /// The file of the repository that a document's link names.
@@ -73,7 +73,7 @@ fn linked(document: &str, link: &str) -> String {
 /// Each law that these documents name is a public term of the file that its row names.
 #[test]
 fn laws_are_those_of_the_files() {
-    for (path, least) in [("README.md", 7), ("docs/ARCHITECTURE.md", 15)] {
+    for (path, least) in [("README.md", 19), ("docs/ARCHITECTURE.md", 15)] {
         let document = prose(&text(path));
         let mut found = 0;
         for line in document.lines() {

@@ -13,18 +13,18 @@ fn number(shown: &str) -> i64 {
     shown.replace(',', "").replace('−', "-").parse().unwrap_or_else(|_| panic!("{shown} is no number"))
 }
 
-/// The value of an antt definition such as `negℤ (pos 10)`.
+/// The value of an antt definition such as `neg_ℤ (pos 10)`.
 fn value(term: &str) -> i64 {
     let digits: String = term.chars().filter(char::is_ascii_digit).collect();
     let size: i64 = digits.parse().unwrap_or_else(|_| panic!("{term} has no number"));
-    if term.contains("negℤ") {
+    if term.contains("neg_ℤ") {
         -size
     } else {
         size
     }
 }
 
-/// The definitions of a source, such as `leastSpeed = 20`: each name with its number.
+/// The definitions of a source, such as `least_speed = 20`: each name with its number.
 fn definitions(path: &str) -> BTreeMap<String, i64> {
     let source = text(path);
     let lines = source.lines().filter(|line| !line.starts_with("--"));
@@ -40,14 +40,9 @@ fn shown(heading: &str) -> BTreeMap<String, i64> {
     named
 }
 
-/// A name of the definitions as the code has it: `speedRefused` is `SPEED_REFUSED`.
+/// A name of the definitions as the code has it: `speed_refused` is `SPEED_REFUSED`.
 fn in_code(name: &str) -> String {
-    let parted = name.chars().flat_map(|letter| {
-        let (before, letter) =
-            if letter.is_uppercase() { (Some('_'), letter) } else { (None, letter.to_ascii_uppercase()) };
-        before.into_iter().chain([letter])
-    });
-    parted.collect()
+    name.to_ascii_uppercase()
 }
 
 /// The constants of the code, by their names.
