@@ -128,7 +128,8 @@ fn declarations_are_those_of_the_proved_crates() {
 
 const RATTLE: &str = "\
 // pub extern \"C\" fn in_a_comment(a: u32) -> u32
-#[no_mangle]
+#[unsafe(no_mangle)]
+#[tactic(auto, using(crate::proofs::Laws::law))]
 pub extern \"C\" fn sight(heights: &[i32], back: bool, eye: u32, object: u32, sights: &mut [u16]) -> i64
     ensures { ... }
 {
@@ -139,7 +140,7 @@ fn helper(heights: &[i32]) -> u32 {
     0
 }
 
-#[no_mangle]
+#[unsafe(no_mangle)]
 pub extern \"C\" fn length(
     drop: u32,
     sight: u8,
