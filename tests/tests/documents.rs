@@ -73,7 +73,7 @@ fn linked(document: &str, link: &str) -> String {
 /// Each law that these documents name is a public term of the file that its row names.
 #[test]
 fn laws_are_those_of_the_files() {
-    for (path, least) in [("README.md", 19), ("docs/ARCHITECTURE.md", 15)] {
+    for (path, least) in [("README.md", 19), ("docs/ARCHITECTURE.md", 49)] {
         let document = prose(&text(path));
         let mut found = 0;
         for line in document.lines() {
