@@ -136,8 +136,8 @@ fn functions_are_those_of_the_crates() {
     }
 }
 
-/// The table of contracts has every public function but those that it leaves to their operations: `crate::function`, or `function` in a row
-/// of that crate.
+/// The table of contracts has every public function and method but those that it leaves to their operations: `crate::function`,
+/// `crate::Type::method`, or `function` in a row of that crate.
 #[test]
 fn every_contract_is_in_the_table() {
     let document = text("docs/ARCHITECTURE.md");
@@ -145,8 +145,13 @@ fn every_contract_is_in_the_table() {
     for row in table(&document, "## The contracts") {
         let mut name = "";
         for function in quoted(row[0]) {
-            name = function.split_once("::").map_or(name, |(own, _)| own);
-            named.insert(format!("{name}::{}", function.rsplit("::").next().unwrap_or_default()));
+            match function.split_once("::") {
+                Some((own, _)) => {
+                    name = own;
+                    named.insert(function.to_string());
+                }
+                None => drop(named.insert(format!("{name}::{function}"))),
+            }
         }
     }
     let functions = public_functions();
@@ -210,17 +215,32 @@ fn crates() -> Vec<(String, PathBuf)> {
 
 /// The name of the public function that begins on a line of Rattle.
 fn public_function(line: &str) -> Option<&str> {
+    let line = line.trim_start();
     let rest = line.strip_prefix("pub fn ").or(line.strip_prefix("pub extern \"C\" fn "))?;
     rest.split('(').next()
 }
 
-/// The public functions of the crates, such as `sight::profile`.
+/// The type whose methods begin behind a line of Rattle, as in `impl Curve {`.
+fn own_type(line: &str) -> Option<&str> {
+    let own = line.strip_prefix("impl")?.strip_suffix(" {")?.rsplit(' ').next()?;
+    own.split('<').next()
+}
+
+/// The public functions of the crates, such as `sight::profile`, and the methods, such as `road::Curve::begin`.
 fn public_functions() -> BTreeSet<String> {
     let mut functions = BTreeSet::new();
     for (name, folder) in crates() {
         for source in files(&folder.join("src"), "rt") {
             let source = fs::read_to_string(source).expect("a source is text");
-            functions.extend(source.lines().filter_map(public_function).map(|function| format!("{name}::{function}")));
+            let mut of = name.clone();
+            for line in source.lines() {
+                if let Some(own) = own_type(line) {
+                    of = format!("{name}::{own}");
+                } else if line == "}" {
+                    of = name.clone();
+                }
+                functions.extend(public_function(line).map(|function| format!("{of}::{function}")));
+            }
         }
     }
     functions

@@ -18,6 +18,12 @@ fn number(source: &str, name: &str) -> usize {
     constant(source, name).parse().expect("a number")
 }
 
+/// How many letters the lister has, as in `const LETTERS: &[u8; 5] = b"SDRsd";`.
+fn letters() -> usize {
+    let line = LISTING.lines().find(|line| line.starts_with("const LETTERS:")).expect("the constant is there");
+    line.split('"').nth(1).expect("its bytes").len()
+}
+
 /// The stations of the longest road of version 1, and of any that is listed and that the van marks.
 fn short_stations() -> usize {
     assert_eq!(constant(TERMS, "SHORT_STATIONS"), "GREATEST_SHORT_ROAD as usize + 1");
@@ -53,8 +59,8 @@ fn limits_of_the_exports() {
     assert_eq!(exports::PASSING_OBJECT_HEIGHT as usize, number(TERMS, "PASSING_OBJECT_HEIGHT"));
     assert_eq!(exports::PASSING_NOT_JUDGED_BIT as usize, number(TERMS, "LAST_BIT"));
     assert_eq!(constant(LISTING, "MOST_ZONES"), "(terms::SHORT_STATIONS + 1) / 2");
-    assert_eq!(constant(LISTING, "GREATEST_LISTING"), "22 + 14 * MOST_ZONES * LETTERS as usize");
-    assert_eq!(exports::GREATEST_LISTING, 22 + 14 * short_stations().div_ceil(2) * number(LISTING, "LETTERS"));
+    assert_eq!(constant(LISTING, "GREATEST_LISTING"), "22 + 14 * MOST_ZONES * LETTERS.len()");
+    assert_eq!(exports::GREATEST_LISTING, 22 + 14 * short_stations().div_ceil(2) * letters());
     assert_eq!(exports::ENOUGH_BYTES, enough_bytes());
 }
 

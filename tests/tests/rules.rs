@@ -24,11 +24,12 @@ fn value(term: &str) -> i64 {
     }
 }
 
-/// The definitions of a source, such as `least_speed = 20`: each name with its number.
+/// The definitions of a source, such as `least_speed = 20`, or `number ShortFile = 1` of a refusal: each name with its number.
 fn definitions(path: &str) -> BTreeMap<String, i64> {
     let source = text(path);
     let lines = source.lines().filter(|line| !line.starts_with("--"));
-    lines.filter_map(|line| line.split_once(" = ")).map(|(name, term)| (name.to_string(), value(term))).collect()
+    let named = lines.filter_map(|line| line.split_once(" = "));
+    named.map(|(name, term)| (name.trim_start_matches("number ").to_string(), value(term))).collect()
 }
 
 /// The table below a heading, as names with their numbers.
@@ -40,19 +41,26 @@ fn shown(heading: &str) -> BTreeMap<String, i64> {
     named
 }
 
-/// A name of the definitions as the code has it: `speed_refused` is `SPEED_REFUSED`.
-fn in_code(name: &str) -> String {
-    name.to_ascii_uppercase()
-}
-
-/// The constants of the code, by their names.
+/// The constants of the code, such as `LEAST_SPEED`, which the definitions call `least_speed`, by those names.
 fn constants() -> BTreeMap<String, i64> {
     let source = text("crates/terms/src/lib.rt");
     let lines = source.lines().filter_map(|line| line.strip_prefix("pub const "));
     let named = lines.filter_map(|line| {
         let (name, rest) = line.split_once(':')?;
         let value = rest.split_once('=')?.1.trim().trim_end_matches(';').parse().ok()?;
-        Some((name.to_string(), value))
+        Some((name.to_ascii_lowercase(), value))
+    });
+    named.collect()
+}
+
+/// The variants of the code's `Refusal`, such as `ShortFile = 1`, by their names.
+fn variants() -> BTreeMap<String, i64> {
+    let source = text("crates/terms/src/lib.rt");
+    let of_the_enum = source.split("pub enum Refusal {").nth(1).expect("the enum").split('}').next().expect("its end");
+    let lines = of_the_enum.lines().map(str::trim).filter(|line| !line.is_empty() && !line.starts_with("//"));
+    let named = lines.map(|line| {
+        let (name, number) = line.trim_end_matches(',').split_once(" = ").expect("a variant with its number");
+        (name.to_string(), number.parse().expect("a number"))
     });
     named.collect()
 }
@@ -60,16 +68,16 @@ fn constants() -> BTreeMap<String, i64> {
 /// The rules' numbers are those of the definitions and of the code, and none is left out.
 #[test]
 fn refusals_and_limits_are_those_of_the_sources() {
+    let refusals = shown("## Refusals");
+    assert!(refusals.len() > 20, "{} refusals", refusals.len());
+    assert_eq!(refusals, definitions("crates/terms/specs/Refusals.antt"), "refusals");
+    assert_eq!(refusals, variants(), "refusals in the code");
+    let limits = shown("## Limits");
+    assert!(limits.len() > 15, "{} limits", limits.len());
+    assert_eq!(limits, definitions("crates/terms/specs/Limits.antt"), "limits");
     let constants = constants();
-    for (heading, path, least) in
-        [("## Refusals", "crates/terms/specs/Refusals.antt", 20), ("## Limits", "crates/terms/specs/Limits.antt", 15)]
-    {
-        let rules = shown(heading);
-        assert!(rules.len() > least, "{heading}: {}", rules.len());
-        assert_eq!(rules, definitions(path), "{heading}");
-        for (name, number) in rules {
-            assert_eq!(constants.get(&in_code(&name)), Some(&number), "{name} in the code");
-        }
+    for (name, number) in limits {
+        assert_eq!(constants.get(&name), Some(&number), "{name} in the code");
     }
 }
 

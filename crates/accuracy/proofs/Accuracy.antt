@@ -12,8 +12,8 @@ use Rattle.whole.specs.Fractions.{Frac}
 use Rattle.whole.proofs.Fill.{filled_at}
 use Rattle.whole.proofs.Floor.{Floor}
 use Rattle.terms.specs.Limits.{greatest_long_road}
-use Rattle.terms.specs.declared.Answer.TheVariants.{Number}
-use Rattle.terms.specs.declared.Verdict.TheVariants.{Accepted}
+use Rattle.std.specs.Prelude.{Ok}
+use Rattle.terms.specs.Answers.{accepted}
 use Rattle.verdicts.proofs.Laws.{LookInRange}
 use Rattle.road.specs.declared.Road.{Road}
 use Rattle.road.specs.Road.{road_verdict}
@@ -31,14 +31,14 @@ use Rattle.exact.specs.ExactSight.{exact_sight}
 use Rattle.exact.proofs.Floors.{exact_le_sight, sight_le_exact}
 use Rattle.accuracy.specs.Accuracy.{AccuracyRule}
 
-own_floors : (r : Road) (list : List ℤ) → road_verdict r ≡ Accepted → r.length + 1 ≤ length list →
+own_floors : (r : Road) (list : List ℤ) → road_verdict r ≡ accepted → r.length + 1 ≤ length list →
     (k : ℕ) → k ≤ r.length → Floor (exact_height r k) (height_at (heights_list r list) k)
 own_floors r list ok room k l =
     let at = filled_at (stored_height r) 0 (r.length + 1) list k (pos 0) (omega arith) (omega arith) (omega arith) in
     rw (heights_filled r list ok room, at) (stored_floor r k)
 
 -- as the driver meets them
-met_floors : (r : Road) (list : List ℤ) (back : Bool) → road_verdict r ≡ Accepted → length (heights_list r list) ≡ r.length + 1 →
+met_floors : (r : Road) (list : List ℤ) (back : Bool) → road_verdict r ≡ accepted → length (heights_list r list) ≡ r.length + 1 →
     (k : ℕ) → k ≤ r.length → Floor (exact_height r (counted back (r.length + 1) k)) (height_at (faced back (heights_list r list)) k)
 met_floors r list back ok stations k l =
     let own = heights_list r list in let n = r.length + 1 in
@@ -64,7 +64,7 @@ accuracy r list sights back i e o far ok size room on e-low e-high o-low o-high 
       heights = heights_number r list ok (omega arith);
       sight = sight_toward own back i e o far;
       from_station = sight_number own back i e o far (omega arith) (omega arith) look;
-      profile = profile_number own back i e o far (omega arith) (omega arith) look sights (omega arith) ∙ ap Number stations;
+      profile = profile_number own back i e o far (omega arith) (omega arith) look sights (omega arith) ∙ ap Ok stations;
       in_profile = profile_at own back i e o far (omega arith) (omega arith) look sights (omega arith);
       available = ap (λ (m : ℕ). available_sight met (counted back m i) e o far) stations;
       at_least = rw stations (exact_le_sight exact met r.length last floors place e o far e-low o-low);

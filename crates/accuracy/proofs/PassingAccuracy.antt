@@ -10,7 +10,7 @@ use borrow.Author.Tests.{ltb-true, ltb-false, leb-true, leb-false}
 use lib.IntN.{ℤ}
 use lib.ListN.{length}
 use Rattle.terms.specs.Limits.{greatest_long_road, eye_height, passing_object_height}
-use Rattle.terms.specs.declared.Answer.TheVariants.{Number}
+use Rattle.std.specs.Prelude.{Ok}
 use Rattle.road.specs.declared.Road.{Road}
 use Rattle.road.proofs.Accepted.{accepted_road}
 use Rattle.heights.specs.Heights.{heights_list}
@@ -53,6 +53,6 @@ passing_accuracy r list sights marks i R ok size room place on low high =
     let right = says r own R i stations (rw accurate.available at accurate.at_least) (rw accurate.available at accurate.at_most) in
     record {
       rule = accurate;
-      answer = passing_number own R marks (omega arith, omega arith) (low, high) (omega arith) ∙ ap Number stations;
+      answer = passing_number own R marks (omega arith, omega arith) (low, high) (omega arith) ∙ ap Ok stations;
       mark = rw (passing_at own R marks (omega arith, omega arith) (low, high) (omega arith) i (omega arith)) right;
     }

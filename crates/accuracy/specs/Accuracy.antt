@@ -1,10 +1,9 @@
 -- The third demand, the accuracy rule (docs/RULES.md, "What can be seen"): the sight that is answered is the available sight over the
 -- road's own heights, and lies between the sight distances on the exact parabolas and straights with eye and object 1 h-unit lower
 -- and 1 h-unit higher. It speaks of the definitions that the contracts of Heights, Sight from one station and Sight profile cite.
-use Rattle.std.specs.Prelude.{ℕ, ◌+◌, ◌-◌, ◌≤◌, Bool, List, ◌≡◌, ℤ, length, get_or}
+use Rattle.std.specs.Prelude.{ℕ, ◌+◌, ◌-◌, ◌≤◌, Bool, List, ◌≡◌, ℤ, length, get_or, Ok}
 use Rattle.terms.specs.Limits.{greatest_height, greatest_farthest}
-use Rattle.terms.specs.declared.Answer.TheVariants.{Number}
-use Rattle.terms.specs.declared.Verdict.TheVariants.{Accepted}
+use Rattle.terms.specs.Answers.{accepted}
 use Rattle.road.specs.declared.Road.{Road}
 use Rattle.road.specs.Road.{road_verdict}
 use Rattle.heights.specs.Heights.{heights_answer, heights_list}
@@ -17,12 +16,12 @@ use Rattle.exact.specs.ExactSight.{exact_sight}
 -- and a farthest distance
 pub record Accurate (r : Road) (list : List ℤ) (sights : List ℕ) (back : Bool) (i e o far : ℕ) : Type 0 where
   -- Heights fills the list with the heights of stations 0 to N
-  pub heights : heights_answer r list ≡ Number (r.length + 1)
+  pub heights : heights_answer r list ≡ Ok (r.length + 1)
   -- Sight from one station, over these heights, answers a number
   pub sight : ℕ
-  pub from_station : sight_answer (heights_list r list) back i e o far ≡ Number sight
+  pub from_station : sight_answer (heights_list r list) back i e o far ≡ Ok sight
   -- Sight profile, over these heights, writes the same number for the station
-  pub profile : profile_answer (heights_list r list) e o far sights ≡ Number (r.length + 1)
+  pub profile : profile_answer (heights_list r list) e o far sights ≡ Ok (r.length + 1)
   pub in_profile : get_or (profile_list (heights_list r list) back e o far sights) i 0 ≡ sight
   -- it is the available sight over these heights, towards falling stations with the stations counted from the other end
   pub available : sight ≡ available_sight (faced back (heights_list r list)) (counted back (r.length + 1) i) e o far
@@ -36,7 +35,7 @@ abbrev pub AccuracyRule : Type 0
 AccuracyRule =
     (r : Road) (list : List ℤ) (sights : List ℕ) (back : Bool) (i e o far : ℕ)
     -- every accepted road,
-    → road_verdict r ≡ Accepted
+    → road_verdict r ≡ accepted
     -- with its own heights, lent as a list of just these N + 1,
     → length list ≡ r.length + 1
     -- and a list of sights with room for them,

@@ -1,9 +1,8 @@
 -- The accuracy rule for passing (docs/RULES.md, "Passing"): sight with eye and object at 10,800, and what a passing mark says of
 -- the exact profile, in fractions of whole numbers, from the road's numbers alone.
-use Rattle.std.specs.Prelude.{ℕ, ◌+◌, ◌-◌, ◌^◌, ◌≤◌, ◌<◌, List, ◌⊎◌, ◌≡◌, ℤ, length, get_or}
+use Rattle.std.specs.Prelude.{ℕ, ◌+◌, ◌-◌, ◌^◌, ◌≤◌, ◌<◌, List, ◌⊎◌, ◌≡◌, ℤ, length, get_or, Ok}
 use Rattle.terms.specs.Limits.{greatest_farthest, eye_height, passing_object_height}
-use Rattle.terms.specs.declared.Answer.TheVariants.{Number}
-use Rattle.terms.specs.declared.Verdict.TheVariants.{Accepted}
+use Rattle.terms.specs.Answers.{accepted}
 use Rattle.road.specs.declared.Road.{Road}
 use Rattle.road.specs.Road.{road_verdict}
 use Rattle.heights.specs.Heights.{heights_list}
@@ -27,7 +26,7 @@ pub record AccuratePassing (r : Road) (list : List ℤ) (sights marks : List ℕ
   -- the accuracy rule at these heights, up to the passing distance
   pub rule : Accurate r list sights forward i eye_height passing_object_height R
   -- Passing marks, over the road's heights, marks stations 0 to N
-  pub answer : passing_answer (heights_list r list) R marks ≡ Number (r.length + 1)
+  pub answer : passing_answer (heights_list r list) R marks ≡ Ok (r.length + 1)
   -- and the station's mark is right to one h-unit
   pub mark : Says r R i (get_or (passing_list (heights_list r list) R marks) i 0)
 
@@ -36,7 +35,7 @@ abbrev pub PassingAccuracy : Type 0
 PassingAccuracy =
     (r : Road) (list : List ℤ) (sights marks : List ℕ) (i R : ℕ)
     -- every accepted road,
-    → road_verdict r ≡ Accepted
+    → road_verdict r ≡ accepted
     -- with its own heights, lent as a list of just these N + 1,
     → length list ≡ r.length + 1
     -- and lists of sights and of marks with room for them,

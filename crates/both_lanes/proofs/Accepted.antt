@@ -11,11 +11,11 @@ use lib.Seq.{take_at, length-take-le}
 use lib.Signed.{◌≤ℤ◌}
 use Rattle.whole.proofs.Int.{var, neg, reps, eq_by, le_by, le_to}
 use Rattle.whole.proofs.Table.{Each}
-use Rattle.terms.specs.Answers.{outside_ℤ, fault, first_fault}
+use Rattle.std.specs.Prelude.{Ok, Err}
+use Rattle.terms.specs.Answers.{outside_ℤ, refuse, unless, Verdict, accepted}
 use Rattle.terms.specs.Limits.{first_version, second_version, least_speed, greatest_speed, first_decision, last_purpose, greatest_long_road, lowest_start, highest_start, greatest_curve_count, greatest_curve}
-use Rattle.terms.specs.Refusals.{start_refused}
-use Rattle.terms.specs.declared.Verdict.{Verdict}
-use Rattle.terms.specs.declared.Verdict.TheVariants.{Accepted, Fault}
+use Rattle.terms.specs.declared.Refusal.TheVariants.{StartOutside}
+use Rattle.std.specs.Prelude.{Err}
 use Rattle.terms.proofs.Laws.{GradeIn, not_outside, grade_not_outside}
 use Rattle.road.specs.declared.Curve.{Curve}
 use Rattle.road.specs.declared.Road.{Road}
@@ -71,7 +71,7 @@ mirrored_smooth n g (c ∷ cs) s =
 
 -- ---- curves that are all this are accepted
 sound_curve : (n : ℕ) (before c : Curve) → Placed n (end before) c → CurveInRange c → NotSharp before.grade_out c →
-    curve_verdict n before c ≡ Accepted
+    curve_verdict n before c ≡ accepted
 unfolding curve_verdict
 sound_curve n before c p r s =
     simp (
@@ -85,7 +85,7 @@ sound_curve n before c p r s =
     )
 
 sound_curves : (n : ℕ) (before : Curve) (cs : List Curve) → InOrder n (end before) cs → Each CurveInRange cs →
-    Smooth before.grade_out cs → curves_verdict n before cs ≡ Accepted
+    Smooth before.grade_out cs → curves_verdict n before cs ≡ accepted
 unfolding curves_verdict
 sound_curves n before [] o r s = refl
 sound_curves n before (c ∷ cs) o r s = rw (sound_curve n before c o.0 r.0 s.0) (sound_curves n c cs o.1 r.1 s.1)
@@ -110,9 +110,9 @@ module _ (r : Road) (holds : r.count ≤ length r.curves) where
       simp length-append (omega (arith, n, length-take-le r.count r.curves holds))
 
 -- nothing behind a verdict is a fault
-no_fault_behind : (v : Verdict) → first_fault v Accepted ≡ v
-no_fault_behind Accepted = refl
-no_fault_behind (Fault k) = refl
+no_fault_behind : (v : Verdict) → unless v accepted ≡ v
+no_fault_behind (Ok _) = refl
+no_fault_behind (Err refusal) = refl
 
 pub mirror_accepted : MirrorAccepted
 unfolding verdict_up_to numbers_verdict mirror
@@ -132,4 +132,4 @@ mirror_accepted r holds ok =
       mirror_curves r holds,
       sound_curves n (start_of (mirror r)) (mirrored n g cs) order (mirrored_in_range n g cs first s.in_range) smooth,
     )
-    (no_fault_behind (fault (outside_ℤ lowest_start highest_start (mirror r).start_height) start_refused Accepted))
+    (no_fault_behind (refuse (outside_ℤ lowest_start highest_start (mirror r).start_height) StartOutside accepted))

@@ -8,7 +8,7 @@ use lib.IntN.{ℤ, pos, neg_ℤ, neg_ℤ-neg_ℤ}
 use lib.ListN.{length}
 use Rattle.whole.proofs.Ring.{≤ℤ_antisym}
 use Rattle.whole.proofs.Table.{Each, each_map}
-use Rattle.terms.specs.declared.Verdict.TheVariants.{Accepted}
+use Rattle.terms.specs.Answers.{accepted}
 use Rattle.road.specs.declared.Curve.{Curve}
 use Rattle.road.specs.declared.Road.{Road}
 use Rattle.road.specs.Road.{curves_of, road_verdict}
@@ -55,7 +55,7 @@ as_steep_back r holds back =
 same_grade : (a b : Road) (back : Bool) → SameRoad a b → road_grade a back ≡ road_grade b back
 same_grade a b back s = ap₂ (λ (g : ℤ) (cs : List Curve). steepest_grade back (g ∷ outs cs)) s.grade s.curves
 
-module _ (r : Road) (holds : r.count ≤ length r.curves) (ok : road_verdict r ≡ Accepted) where
+module _ (r : Road) (holds : r.count ≤ length r.curves) (ok : road_verdict r ≡ accepted) where
   as_steep_twice : (back : Bool) → AsSteep back (neg_ℤ (road_grade (mirror r) (not back))) (road_grade r back)
   as_steep_twice back =
       subst (AsSteep back _) (same_grade (mirror (mirror r)) r back (mirrored_twice r holds ok))

@@ -9,7 +9,7 @@ use lib.ListN.{length, replicate, length-replicate}
 use Rattle.whole.specs.Fill.{filled}
 use Rattle.whole.proofs.Floor.{floor_whole}
 use Rattle.directions.proofs.Laws.{filled_reversed}
-use Rattle.terms.specs.declared.Verdict.TheVariants.{Accepted}
+use Rattle.terms.specs.Answers.{accepted}
 use Rattle.road.specs.declared.Road.{Road}
 use Rattle.road.specs.Road.{curves_of, road_verdict}
 use Rattle.road.specs.Order.{InOrder}
@@ -24,12 +24,12 @@ use Rattle.both_lanes.proofs.Back.{same_back}
 use Rattle.both_lanes.proofs.Accepted.{mirror_curves}
 
 -- a road's own heights, by their places
-own_filled : (r : Road) → road_verdict r ≡ Accepted →
+own_filled : (r : Road) → road_verdict r ≡ accepted →
     own_heights r ≡ filled (stored_height r) 0 (r.length + 1) (replicate (r.length + 1) (pos 0))
 unfolding own_heights
 own_filled r ok = heights_filled r _ ok (omega (arith, length-replicate (r.length + 1) (pos 0)))
 
-module _ (r : Road) (holds : r.count ≤ length r.curves) (ok : road_verdict r ≡ Accepted) where
+module _ (r : Road) (holds : r.count ≤ length r.curves) (ok : road_verdict r ≡ accepted) where
   order : InOrder r.length 0 (curves_of r)
   order = (accepted_road r ok).in_order
 
@@ -49,7 +49,7 @@ module _ (r : Road) (holds : r.count ≤ length r.curves) (ok : road_verdict r �
   unfolding stored_height
   mirror_height x l = sym (same_floor (mirror_exact x l))
 
-  pub mirror_heights : road_verdict (mirror r) ≡ Accepted → own_heights (mirror r) ≡ reverse (own_heights r)
+  pub mirror_heights : road_verdict (mirror r) ≡ accepted → own_heights (mirror r) ≡ reverse (own_heights r)
   unfolding mirror
   mirror_heights back =
       let n = r.length + 1 in let none = replicate n (pos 0) in

@@ -8,8 +8,8 @@ use native.Mathlib.Omega.{arith}
 use lib.IntN.{ℤ, neg_ℤ, neg_ℤ-neg_ℤ}
 use lib.ListN.{length}
 use Rattle.terms.specs.Limits.{greatest_long_road}
-use Rattle.terms.specs.declared.Answer.TheVariants.{Number}
-use Rattle.terms.specs.declared.Verdict.TheVariants.{Accepted}
+use Rattle.std.specs.Prelude.{Ok}
+use Rattle.terms.specs.Answers.{accepted}
 use Rattle.terms.proofs.Laws.{GradeIn, grade_not_outside, room_number}
 use Rattle.directions.specs.Directions.{forward, backward, counted, driven_grade}
 use Rattle.directions.proofs.Laws.{filled_reversed}
@@ -39,8 +39,8 @@ driven_backward g h = rw (grade_not_outside g h) refl
 
 -- ---- two roads of which one is driven backward as the other is forward
 record Opposite (a b : Road) : Type 0 where
-  accepted : road_verdict a ≡ Accepted
-  opposite_accepted : road_verdict b ≡ Accepted
+  own_accepted : road_verdict a ≡ accepted
+  opposite_accepted : road_verdict b ≡ accepted
   same_length : a.length ≡ b.length
   same_speed : a.speed ≡ b.speed
   same_purpose : a.purpose ≡ b.purpose
@@ -51,7 +51,7 @@ module _ (a b : Road) (o : Opposite a b) where
   same_distances : road_distances a backward ≡ road_distances b forward
   unfolding road_distances
   same_distances =
-      let driven = driven_backward (road_grade a backward) (road_grade_in a backward o.accepted) ∙ o.grade
+      let driven = driven_backward (road_grade a backward) (road_grade_in a backward o.own_accepted) ∙ o.grade
       ∙ sym (driven_forward (road_grade b forward) (road_grade_in b forward o.opposite_accepted)) in
       rw (driven, o.same_speed, o.same_purpose) refl
 
@@ -60,8 +60,8 @@ module _ (a b : Road) (o : Opposite a b) where
   same_mark i = rw (o.heights, same_distances, own_length a) refl
 
 -- a road up to a limit is marked where a list has a place for each station
-answered : (r : Road) (most : ℕ) (marks : List ℕ) → road_verdict r ≡ Accepted → r.length ≤ most → length marks ≡ r.length + 1 →
-    mark_road_answer most r marks ≡ Number (r.length + 1)
+answered : (r : Road) (most : ℕ) (marks : List ℕ) → road_verdict r ≡ accepted → r.length ≤ most → length marks ≡ r.length + 1 →
+    mark_road_answer most r marks ≡ Ok (r.length + 1)
 unfolding mark_road_answer
 answered r most marks ok within full =
     room_number _ _ marks (verdict_within most greatest_long_road r within (accepted_road r ok).length_high ∙ ok) (omega arith)
@@ -71,16 +71,16 @@ opposite_marks : (a b : Road) (most : ℕ) (marks : List ℕ) → Opposite a b �
 unfolding mark_road_list
 opposite_marks a b most marks o within full =
     let n = o.same_length in
-    let a-answer = answered a most marks o.accepted within full in
-    let b-answer : mark_road_answer most b marks ≡ Number (a.length + 1) = rw n (answered b most marks o.opposite_accepted (rw n at within) (rw n at full)) in
+    let a-answer = answered a most marks o.own_accepted within full in
+    let b-answer : mark_road_answer most b marks ≡ Ok (a.length + 1) = rw n (answered b most marks o.opposite_accepted (rw n at within) (rw n at full)) in
     rw (a-answer, b-answer) (filled_reversed (road_mark a backward) (road_mark b forward) (a.length + 1) marks marks full full (λ i l. same_mark a b o i))
 
 -- ---- a road and its mirror
-module _ (r : Road) (holds : r.count ≤ length r.curves) (ok : road_verdict r ≡ Accepted) (back : road_verdict (mirror r) ≡ Accepted) where
+module _ (r : Road) (holds : r.count ≤ length r.curves) (ok : road_verdict r ≡ accepted) (back : road_verdict (mirror r) ≡ accepted) where
   mirror_opposite : Opposite r (mirror r)
   unfolding mirror
   mirror_opposite = record {
-    accepted = ok;
+    own_accepted = ok;
     opposite_accepted = back;
     same_length = refl;
     same_speed = refl;
@@ -92,7 +92,7 @@ module _ (r : Road) (holds : r.count ≤ length r.curves) (ok : road_verdict r �
   opposite_mirror : Opposite (mirror r) r
   unfolding mirror
   opposite_mirror = record {
-    accepted = back;
+    own_accepted = back;
     opposite_accepted = ok;
     same_length = refl;
     same_speed = refl;

@@ -1,10 +1,9 @@
 -- The mirror of a road (docs/RULES.md, "The lane coming back"): when it is accepted, and that the mirror of the mirror is the road. They
 -- speak of the definitions that the contract of mirroring cites.
 use Rattle.std.specs.Prelude.{◌≤◌, ◌≡◌, length}
-use Rattle.terms.specs.Answers.{fault, outside_ℤ}
+use Rattle.terms.specs.Answers.{refuse, outside_ℤ, accepted}
 use Rattle.terms.specs.Limits.{lowest_start, highest_start}
-use Rattle.terms.specs.Refusals.{start_refused}
-use Rattle.terms.specs.declared.Verdict.TheVariants.{Accepted}
+use Rattle.terms.specs.declared.Refusal.TheVariants.{StartOutside}
 use Rattle.road.specs.declared.Road.{Road}
 use Rattle.road.specs.Road.{road_verdict}
 use Rattle.round_trip.specs.RoundTrip.{SameRoad}
@@ -17,8 +16,8 @@ MirrorAccepted =
     -- it holds of every road whose curves are all there
     → r.count ≤ length r.curves
     -- and that is accepted
-    → road_verdict r ≡ Accepted
-    → road_verdict (mirror r) ≡ fault (outside_ℤ lowest_start highest_start (mirror r).start_height) start_refused Accepted
+    → road_verdict r ≡ accepted
+    → road_verdict (mirror r) ≡ refuse (outside_ℤ lowest_start highest_start (mirror r).start_height) StartOutside accepted
 
 -- mirrored twice it is the same road
 abbrev pub MirroredTwice : Type 0
@@ -27,5 +26,5 @@ MirroredTwice =
     -- it holds of every road whose curves are all there
     → r.count ≤ length r.curves
     -- and that is accepted, whether its mirror is or not
-    → road_verdict r ≡ Accepted
+    → road_verdict r ≡ accepted
     → SameRoad (mirror (mirror r)) r

@@ -1,11 +1,9 @@
 -- The starred cases, which are worked examples of the rules, by the headings of docs/RULES.md; the acceptance of the two
 -- roads whose heights are given and the height 0 at 100 stand beside them.
-use Rattle.std.specs.Prelude.{◌≡◌, Bool, List, [], ◌∷◌, ◌++◌, ℕ, ◌*◌, ◌-◌, ◌/◌, ℤ, pos, neg_ℤ, length, take, get_or, replicate}
+use Rattle.std.specs.Prelude.{◌≡◌, Bool, List, [], ◌∷◌, ◌++◌, ℕ, ◌*◌, ◌-◌, ◌/◌, ℤ, pos, neg_ℤ, length, take, get_or, replicate, Ok, Err}
 use Rattle.terms.specs.Limits.{first_version, second_version, stopping_purpose, greatest_short_road, greatest_long_road, greatest_curve_count, eye_height, object_height}
-use Rattle.terms.specs.Refusals.{short_file_refused, version_refused, total_refused, speed_refused, road_length_refused, start_refused, curve_order_refused, room_refused, sharp_break_refused, no_curve_refused, long_road_refused}
-use Rattle.terms.specs.declared.Answer.{Answer}
-use Rattle.terms.specs.declared.Answer.TheVariants.{Number, Refused}
-use Rattle.terms.specs.declared.Verdict.TheVariants.{Accepted, Fault}
+use Rattle.terms.specs.declared.Refusal.TheVariants.{ShortFile, WrongVersion, WrongTotal, SpeedOutside, RoadLengthOutside, StartOutside, CurvesOverlap, NoRoom, SharpBreak, NoCurve, LongRoad}
+use Rattle.terms.specs.Answers.{Answer, accepted}
 use Rattle.directions.specs.Directions.{forward, backward}
 use Rattle.distance.specs.declared.Manoeuvre.{Manoeuvre}
 use Rattle.distance.specs.Distance.{purpose_row, metre_parts, level_parts, required_distance}
@@ -135,143 +133,143 @@ passing_over h R = passing_list (pos 0 ∷ h ∷ pos 0 ∷ []) R (replicate 3 25
 pub record StarredCases : Type 0 where
   -- Distances a driver needs: the 129.01 m before rounding in hundredths of a metre, rounded down
   pub distances :
-      (required_distance 80 stopping_purpose (pos 0) ≡ Number 130)
+      (required_distance 80 stopping_purpose (pos 0) ≡ Ok 130)
       × (100 * level_parts 80 (purpose_row stopping_purpose) / metre_parts ≡ 12901)
-      × (required_distance 100 stopping_purpose (pos 0) ≡ Number 185)
-      × (required_distance 20 1 (pos 0) ≡ Number 25)
-      × (required_distance 130 5 (pos 0) ≡ Number 525)
-      × (required_distance 90 stopping_purpose (neg_ℤ (pos 600)) ≡ Number 175)
+      × (required_distance 100 stopping_purpose (pos 0) ≡ Ok 185)
+      × (required_distance 20 1 (pos 0) ≡ Ok 25)
+      × (required_distance 130 5 (pos 0) ≡ Ok 525)
+      × (required_distance 90 stopping_purpose (neg_ℤ (pos 600)) ≡ Ok 175)
   -- Passing: the least of all, the greatest of all, and one between with its 317.45 m before rounding
   pub passing :
-      (passing_distance (manoeuvre 36 225 300 200 93 30) ≡ Number 175)
-      × (passing_distance (manoeuvre 45 241 1300 100 113 90) ≡ Number 930)
-      × (passing_distance (manoeuvre 36 225 562 150 93 30) ≡ Number 320)
+      (passing_distance (manoeuvre 36 225 300 200 93 30) ≡ Ok 175)
+      × (passing_distance (manoeuvre 45 241 1300 100 113 90) ≡ Ok 930)
+      × (passing_distance (manoeuvre 36 225 562 150 93 30) ≡ Ok 320)
       × (100 * passing_parts (manoeuvre 36 225 562 150 93 30) / passing_metre ≡ 31745)
   -- How long a crest must be: e = 10,800 and o = 6,000; the lengths that are answered, and the least adequate ones, which may lie below
   -- the minimum for the speed
   pub crests :
-      (crest_length 80 600 130 eye_height object_height ≡ Number 156)
-      × (crest_length 80 300 130 eye_height object_height ≡ Number 48)
-      × (crest_length 80 253 130 eye_height object_height ≡ Number 48)
-      × (crest_length 80 254 130 eye_height object_height ≡ Number 48)
-      × (crest_length 50 253 130 eye_height object_height ≡ Number 30)
-      × (crest_length 51 253 130 eye_height object_height ≡ Number 32)
+      (crest_length 80 600 130 eye_height object_height ≡ Ok 156)
+      × (crest_length 80 300 130 eye_height object_height ≡ Ok 48)
+      × (crest_length 80 253 130 eye_height object_height ≡ Ok 48)
+      × (crest_length 80 254 130 eye_height object_height ≡ Ok 48)
+      × (crest_length 50 253 130 eye_height object_height ≡ Ok 30)
+      × (crest_length 51 253 130 eye_height object_height ≡ Ok 32)
   pub adequate_crests :
-      (least_adequate 600 130 ≡ Number 156)
-      × (least_adequate 300 130 ≡ Number 42)
-      × (least_adequate 253 130 ≡ Number 0)
-      × (least_adequate 254 130 ≡ Number 2)
+      (least_adequate 600 130 ≡ Ok 156)
+      × (least_adequate 300 130 ≡ Ok 42)
+      × (least_adequate 253 130 ≡ Ok 0)
+      × (least_adequate 254 130 ≡ Ok 2)
   -- How long a sag must be: longer than the sight distance, shorter than it, and by the minimum for the speed; then two least adequate
   -- lengths, which lie below the minimum
   pub sags :
-      (sag_length 80 600 130 ≡ Number 178)
-      × (sag_length 80 300 130 ≡ Number 70)
-      × (sag_length 80 221 130 ≡ Number 48)
-      × (least_length (sag_adequate 221 130) ≡ Number 0)
-      × (least_length (sag_adequate 222 130) ≡ Number 2)
+      (sag_length 80 600 130 ≡ Ok 178)
+      × (sag_length 80 300 130 ≡ Ok 70)
+      × (sag_length 80 221 130 ≡ Ok 48)
+      × (least_length (sag_adequate 221 130) ≡ Ok 0)
+      × (least_length (sag_adequate 222 130) ≡ Ok 2)
   -- The road and its heights
   pub heights :
-      (road_verdict (crest_road 20) ≡ Accepted)
+      (road_verdict (crest_road 20) ≡ accepted)
       × (height_at 20 41 ≡ pos 12285)
       × (height_at 20 50 ≡ pos 13500)
       × (height_at 20 100 ≡ pos 0)
-      × (road_verdict (crest_road 18) ≡ Accepted)
+      × (road_verdict (crest_road 18) ≡ accepted)
       × (height_at 18 42 ≡ pos 12583)
   -- The road and its heights: two breaks by 50; the first by 51, down and back or up; the second by 51; and one by 600 in place of the crest
   pub breaks :
-      (road_verdict (breaks_road 350 400) ≡ Accepted)
-      × (road_verdict (breaks_road 249 300) ≡ Fault sharp_break_refused)
-      × (road_verdict (breaks_road 351 351) ≡ Fault sharp_break_refused)
-      × (road_verdict (breaks_road 250 301) ≡ Fault sharp_break_refused)
-      × (road_verdict (crest_road 0) ≡ Fault sharp_break_refused)
+      (road_verdict (breaks_road 350 400) ≡ accepted)
+      × (road_verdict (breaks_road 249 300) ≡ Err SharpBreak)
+      × (road_verdict (breaks_road 351 351) ≡ Err SharpBreak)
+      × (road_verdict (breaks_road 250 301) ≡ Err SharpBreak)
+      × (road_verdict (crest_road 0) ≡ Err SharpBreak)
   -- The road and its heights: the longest roads of both versions, and a metre more; versions that are neither; and what the lister, the
   -- preview and the van's marking take of version 2, with 8 in its place behind 7 and before 9
   pub versions :
-      (road_verdict (level_road 1 80 8000) ≡ Accepted)
-      × (road_verdict (level_road 1 80 8001) ≡ Fault road_length_refused)
-      × (road_verdict (level_road 2 80 100000) ≡ Accepted)
-      × (road_verdict (level_road 2 80 100001) ≡ Fault road_length_refused)
-      × (road_verdict (level_road 0 19 0) ≡ Fault version_refused)
-      × (road_verdict (level_road 3 80 100) ≡ Fault version_refused)
-      × (road_verdict (road_of_version 3 80 100 (pos 0) (replicate 33 no_curve)) ≡ Fault version_refused)
-      × (short_road_verdict (level_road 2 80 8000) ≡ Accepted)
-      × (short_road_verdict (level_road 2 80 8001) ≡ Fault road_length_refused)
-      × (short_road_verdict (level_road 2 19 8001) ≡ Fault speed_refused)
-      × (short_road_verdict (high_road 2 8001) ≡ Fault road_length_refused)
-      × (road_verdict (high_road 2 8001) ≡ Fault start_refused)
+      (road_verdict (level_road 1 80 8000) ≡ accepted)
+      × (road_verdict (level_road 1 80 8001) ≡ Err RoadLengthOutside)
+      × (road_verdict (level_road 2 80 100000) ≡ accepted)
+      × (road_verdict (level_road 2 80 100001) ≡ Err RoadLengthOutside)
+      × (road_verdict (level_road 0 19 0) ≡ Err WrongVersion)
+      × (road_verdict (level_road 3 80 100) ≡ Err WrongVersion)
+      × (road_verdict (road_of_version 3 80 100 (pos 0) (replicate 33 no_curve)) ≡ Err WrongVersion)
+      × (short_road_verdict (level_road 2 80 8000) ≡ accepted)
+      × (short_road_verdict (level_road 2 80 8001) ≡ Err RoadLengthOutside)
+      × (short_road_verdict (level_road 2 19 8001) ≡ Err SpeedOutside)
+      × (short_road_verdict (high_road 2 8001) ≡ Err RoadLengthOutside)
+      × (road_verdict (high_road 2 8001) ≡ Err StartOutside)
   -- Road file: one of version 2, its road's numbers and two of its heights; its header cut short by a byte and by three, and its record
   -- cut off; the lengths of files; a version that is neither, also where a byte of the header is missing
   pub files :
-      (read_verdict valley_file ≡ Accepted)
-      × (short_read_verdict valley_file ≡ Fault road_length_refused)
+      (read_verdict valley_file ≡ accepted)
+      × (short_read_verdict valley_file ≡ Err RoadLengthOutside)
       × (road_in valley_file ≡ road_of_version 2 80 100000 (pos 300) (curve 70000 20 (neg_ℤ (pos 300)) ∷ []))
       × (stored_height (road_in valley_file) 70000 ≡ pos 20998500)
       × (stored_height (road_in valley_file) 100000 ≡ pos 12000000)
-      × (read_verdict (take 17 valley_file) ≡ Fault short_file_refused)
-      × (read_verdict (take 15 valley_file) ≡ Fault short_file_refused)
-      × (read_verdict (take 18 valley_file) ≡ Fault total_refused)
+      × (read_verdict (take 17 valley_file) ≡ Err ShortFile)
+      × (read_verdict (take 15 valley_file) ≡ Err ShortFile)
+      × (read_verdict (take 18 valley_file) ≡ Err WrongTotal)
       × (file_length first_version greatest_curve_count ≡ 208)
       × (file_length second_version greatest_curve_count ≡ 274)
-      × (read_verdict (other_file 3) ≡ Fault version_refused)
-      × (read_verdict (take 15 (other_file 3)) ≡ Fault short_file_refused)
+      × (read_verdict (other_file 3) ≡ Err WrongVersion)
+      × (read_verdict (take 15 (other_file 3)) ≡ Err ShortFile)
   -- Converting a file: from version 2 to 1, with bytes beyond, and back; a buffer with a byte too few, which stays; 8,000 m, and a metre
   -- more, where it stays too, also where the buffer is too short; and faults of reading such a file
   pub conversions :
-      (convert_answer second_crest_file (replicate 24 255) ≡ Number 22)
+      (convert_answer second_crest_file (replicate 24 255) ≡ Ok 22)
       × (convert_list second_crest_file (replicate 24 255) ≡ crest_file ++ (255 ∷ 255 ∷ []))
-      × (convert_answer crest_file (replicate 26 255) ≡ Number 26)
+      × (convert_answer crest_file (replicate 26 255) ≡ Ok 26)
       × (convert_list crest_file (replicate 26 255) ≡ second_crest_file)
-      × (convert_answer crest_file (replicate 25 255) ≡ Refused room_refused)
+      × (convert_answer crest_file (replicate 25 255) ≡ Err NoRoom)
       × (convert_list crest_file (replicate 25 255) ≡ replicate 25 255)
-      × (convert_answer (level_file 80 64) (replicate 16 255) ≡ Number 16)
-      × (convert_answer (level_file 80 65) (replicate 16 255) ≡ Refused long_road_refused)
+      × (convert_answer (level_file 80 64) (replicate 16 255) ≡ Ok 16)
+      × (convert_answer (level_file 80 65) (replicate 16 255) ≡ Err LongRoad)
       × (convert_list (level_file 80 65) (replicate 16 255) ≡ replicate 16 255)
-      × (convert_answer (level_file 80 65) [] ≡ Refused long_road_refused)
-      × (convert_answer (level_file 19 65) [] ≡ Refused speed_refused)
-      × (convert_answer (take 17 (level_file 80 65)) [] ≡ Refused short_file_refused)
+      × (convert_answer (level_file 80 65) [] ≡ Err LongRoad)
+      × (convert_answer (level_file 19 65) [] ≡ Err SpeedOutside)
+      × (convert_answer (take 17 (level_file 80 65)) [] ≡ Err ShortFile)
   -- Trying another length: a longer curve; places beyond the one curve, also with an odd length; no length left; up to the sag, and into
   -- it; a road that is refused as it is, at a place beyond its curve, and where the length would mend it; and a place beyond the curve of a
   -- longer road, where none over 8,000 m is taken and where it is
   pub changes :
-      (change_verdict greatest_long_road (crest_road 20) 0 40 ≡ Accepted)
-      × (change_verdict greatest_long_road (crest_road 20) 1 40 ≡ Fault no_curve_refused)
-      × (change_verdict greatest_long_road (crest_road 20) 31 41 ≡ Fault no_curve_refused)
-      × (change_verdict greatest_long_road (crest_road 20) 0 0 ≡ Fault sharp_break_refused)
-      × (change_verdict greatest_long_road crest_and_sag 0 40 ≡ Accepted)
-      × (change_verdict greatest_long_road crest_and_sag 0 42 ≡ Fault curve_order_refused)
-      × (change_verdict greatest_long_road (crest_road 0) 1 20 ≡ Fault sharp_break_refused)
-      × (change_verdict greatest_long_road (crest_road 0) 0 20 ≡ Fault sharp_break_refused)
-      × (change_verdict greatest_short_road long_crest 1 40 ≡ Fault road_length_refused)
-      × (change_verdict greatest_long_road long_crest 1 40 ≡ Fault no_curve_refused)
+      (change_verdict greatest_long_road (crest_road 20) 0 40 ≡ accepted)
+      × (change_verdict greatest_long_road (crest_road 20) 1 40 ≡ Err NoCurve)
+      × (change_verdict greatest_long_road (crest_road 20) 31 41 ≡ Err NoCurve)
+      × (change_verdict greatest_long_road (crest_road 20) 0 0 ≡ Err SharpBreak)
+      × (change_verdict greatest_long_road crest_and_sag 0 40 ≡ accepted)
+      × (change_verdict greatest_long_road crest_and_sag 0 42 ≡ Err CurvesOverlap)
+      × (change_verdict greatest_long_road (crest_road 0) 1 20 ≡ Err SharpBreak)
+      × (change_verdict greatest_long_road (crest_road 0) 0 20 ≡ Err SharpBreak)
+      × (change_verdict greatest_short_road long_crest 1 40 ≡ Err RoadLengthOutside)
+      × (change_verdict greatest_long_road long_crest 1 40 ≡ Err NoCurve)
   -- Trying another length: at how many of 41 stations the marks differ; a second and a first list of 40 places, and that the other list
   -- stays; and a place beyond the curve, where both lists are too short
   pub previews :
-      (preview_answer short_crest 0 10 (replicate 41 255) (replicate 41 255) ≡ Number 4)
-      × (preview_answer short_crest 0 10 (replicate 41 255) (replicate 40 255) ≡ Refused room_refused)
+      (preview_answer short_crest 0 10 (replicate 41 255) (replicate 41 255) ≡ Ok 4)
+      × (preview_answer short_crest 0 10 (replicate 41 255) (replicate 40 255) ≡ Err NoRoom)
       × (preview_first short_crest 0 10 (replicate 41 255) (replicate 40 255) ≡ replicate 41 255)
-      × (preview_answer short_crest 0 10 (replicate 40 255) (replicate 41 255) ≡ Refused room_refused)
+      × (preview_answer short_crest 0 10 (replicate 40 255) (replicate 41 255) ≡ Err NoRoom)
       × (preview_second short_crest 0 10 (replicate 40 255) (replicate 41 255) ≡ replicate 41 255)
-      × (preview_answer short_crest 1 10 (replicate 40 255) (replicate 40 255) ≡ Refused no_curve_refused)
+      × (preview_answer short_crest 1 10 (replicate 40 255) (replicate 40 255) ≡ Err NoCurve)
   -- What can be seen: from station 0 with farthest 8
   pub sights :
-      (sight_answer (pos 0 ∷ pos 20 ∷ pos 0 ∷ pos 100 ∷ []) forward 0 10 5 8 ≡ Number 1)
-      × (sight_answer (pos 0 ∷ pos 5 ∷ pos 0 ∷ []) forward 0 6 4 8 ≡ Number 2)
-      × (sight_answer (pos 0 ∷ pos 6 ∷ pos 0 ∷ []) forward 0 6 4 8 ≡ Number 1)
+      (sight_answer (pos 0 ∷ pos 20 ∷ pos 0 ∷ pos 100 ∷ []) forward 0 10 5 8 ≡ Ok 1)
+      × (sight_answer (pos 0 ∷ pos 5 ∷ pos 0 ∷ []) forward 0 6 4 8 ≡ Ok 2)
+      × (sight_answer (pos 0 ∷ pos 6 ∷ pos 0 ∷ []) forward 0 6 4 8 ≡ Ok 1)
   -- What can be seen: what the quick search compares there, up to the first hidden station, where all is seen over a hump and where its
   -- road is too, and on the level up to two farthest distances
   pub comparisons :
-      (comparisons_answer (pos 0 ∷ pos 20 ∷ pos 0 ∷ pos 100 ∷ []) forward 0 10 5 8 ≡ Number 3)
-      × (comparisons_answer (pos 0 ∷ pos 5 ∷ pos 0 ∷ []) forward 0 6 4 8 ≡ Number 3)
-      × (comparisons_answer (pos 0 ∷ pos 3 ∷ pos 0 ∷ []) forward 0 6 4 8 ≡ Number 2)
-      × (comparisons_answer (replicate 4 (pos 0)) forward 0 6 4 8 ≡ Number 3)
-      × (comparisons_answer (replicate 4 (pos 0)) forward 0 6 4 2 ≡ Number 2)
+      (comparisons_answer (pos 0 ∷ pos 20 ∷ pos 0 ∷ pos 100 ∷ []) forward 0 10 5 8 ≡ Ok 3)
+      × (comparisons_answer (pos 0 ∷ pos 5 ∷ pos 0 ∷ []) forward 0 6 4 8 ≡ Ok 3)
+      × (comparisons_answer (pos 0 ∷ pos 3 ∷ pos 0 ∷ []) forward 0 6 4 8 ≡ Ok 2)
+      × (comparisons_answer (replicate 4 (pos 0)) forward 0 6 4 8 ≡ Ok 3)
+      × (comparisons_answer (replicate 4 (pos 0)) forward 0 6 4 2 ≡ Ok 2)
   -- The lane coming back: sight from stations 3, 1 and 0 towards falling stations; the stopping distance of a road at 90 km/h that climbs
   -- by 6 %, in either direction; and the marks of 22 level stations at 20 km/h, whose last two see as far as stopping takes back to
   -- station 0, with the grade 9 %, which falls towards falling stations, where none does, and a grade out of range
   pub back :
-      (sight_answer (pos 0 ∷ pos 20 ∷ pos 0 ∷ pos 100 ∷ []) backward 3 10 5 8 ≡ Number 3)
-      × (sight_answer (pos 0 ∷ pos 20 ∷ pos 0 ∷ pos 100 ∷ []) backward 1 10 5 8 ≡ Number 1)
-      × (sight_answer (pos 0 ∷ pos 20 ∷ pos 0 ∷ pos 100 ∷ []) backward 0 10 5 8 ≡ Number 0)
+      (sight_answer (pos 0 ∷ pos 20 ∷ pos 0 ∷ pos 100 ∷ []) backward 3 10 5 8 ≡ Ok 3)
+      × (sight_answer (pos 0 ∷ pos 20 ∷ pos 0 ∷ pos 100 ∷ []) backward 1 10 5 8 ≡ Ok 1)
+      × (sight_answer (pos 0 ∷ pos 20 ∷ pos 0 ∷ pos 100 ∷ []) backward 0 10 5 8 ≡ Ok 0)
       × ((road_distances (road_for 90 100 (pos 600) []) forward).stopping ≡ 160)
       × ((road_distances (road_for 90 100 (pos 600) []) backward).stopping ≡ 175)
       × (marks_over (pos 0) backward ≡ replicate 20 24 ++ replicate 2 16)
@@ -282,8 +280,8 @@ pub record StarredCases : Type 0 where
   -- start, whose mirror starts too high
   pub mirrors :
       (mirror crest_and_break ≡ road_from 1 80 100 (neg_ℤ (pos 7000)) (pos 250) (curve 40 0 (pos 200) ∷ curve 70 20 (neg_ℤ (pos 300)) ∷ []))
-      × (mirror_verdict crest_and_break ≡ Accepted)
-      × (mirror_verdict (road_from 1 80 8000 (pos 90000000) (pos 1500) []) ≡ Fault start_refused)
+      × (mirror_verdict crest_and_break ≡ accepted)
+      × (mirror_verdict (road_from 1 80 8000 (pos 90000000) (pos 1500) []) ≡ Err StartOutside)
   -- Passing: the line touches the road, or is cut; and the road ends too soon
   pub passing_marks :
       (passing_over (pos 10800) 2 ≡ 0 ∷ 64 ∷ 64 ∷ [])

@@ -1,8 +1,7 @@
 -- docs/RULES.md, "Trying another length": a road with another length at one of its curves, and when that is accepted.
 use Rattle.std.specs.Prelude.{ℕ, leb, get_or, set}
-use Rattle.terms.specs.Answers.{fault, first_fault}
-use Rattle.terms.specs.Refusals.{no_curve_refused}
-use Rattle.terms.specs.declared.Verdict.{Verdict}
+use Rattle.terms.specs.Answers.{refuse, unless, Verdict}
+use Rattle.terms.specs.declared.Refusal.TheVariants.{NoCurve}
 use Rattle.road.specs.declared.Curve.{Curve}
 use Rattle.road.specs.declared.Road.{Road}
 use Rattle.road.specs.Road.{no_curve, verdict_up_to}
@@ -28,6 +27,6 @@ with_length r k l = record {
 -- of the changed road
 unfoldable pub change_verdict : ℕ → Road → ℕ → ℕ → Verdict
 change_verdict most r k l =
-    first_fault (verdict_up_to most r)
-    (fault (leb r.count k) no_curve_refused
+    unless (verdict_up_to most r)
+    (refuse (leb r.count k) NoCurve
     (verdict_up_to most (with_length r k l)))

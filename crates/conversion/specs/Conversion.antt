@@ -1,11 +1,8 @@
 -- docs/RULES.md, "Converting a file": a road file of either version made into one of the other, with the same road apart from its version.
 use Rattle.std.specs.Prelude.{ℕ, Bool, cond, ◌&&◌, List, ltb, eqb}
-use Rattle.terms.specs.Answers.{fault, first_fault, unless, kept_unless}
+use Rattle.terms.specs.Answers.{refuse, unless, kept_unless, Answer, Verdict, accepted}
 use Rattle.terms.specs.Limits.{first_version, second_version, greatest_short_road}
-use Rattle.terms.specs.Refusals.{long_road_refused}
-use Rattle.terms.specs.declared.Answer.{Answer}
-use Rattle.terms.specs.declared.Verdict.{Verdict}
-use Rattle.terms.specs.declared.Verdict.TheVariants.{Accepted}
+use Rattle.terms.specs.declared.Refusal.TheVariants.{LongRoad}
 use Rattle.road.specs.declared.Road.{Road}
 use Rattle.file.specs.File.{road_in}
 use Rattle.file.specs.Reading.{read_verdict}
@@ -40,7 +37,7 @@ too_long_for wanted r = eqb wanted first_version && ltb greatest_short_road r.le
 unfoldable pub convert_verdict : List ℕ → Verdict
 convert_verdict file =
     let r = road_in file in
-    first_fault (read_verdict file) (fault (too_long_for (other_version r.version) r) long_road_refused Accepted)
+    unless (read_verdict file) (refuse (too_long_for (other_version r.version) r) LongRoad accepted)
 
 -- converting: refused so, then as writing the converted road is, which is by 14 alone (`AfterReading` of `there_and_back`); else how many
 -- bytes are written

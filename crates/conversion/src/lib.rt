@@ -3,29 +3,36 @@
 #![tactic(auto)]
 
 ghost use Rattle.std.specs.Prelude.{◌≡◌};
-ghost use Rattle.conversion.specs.Conversion.{other_version, in_version, convert_answer, convert_list};
+ghost use Rattle.conversion.specs.Conversion.{other_version, in_version, too_long_for, convert_answer, convert_list};
 
+use file::ReadRoad;
 use road::Road;
-use terms::{Answer, Verdict};
+use terms::{Answer, Refusal};
 
 // The version that a file of this one is converted to.
 fn other_version(version: u32) -> u32
     ensures { result ≡ other_version version }
 {
     if version == terms::SECOND_VERSION {
-        return terms::FIRST_VERSION;
+        terms::FIRST_VERSION
+    } else {
+        terms::SECOND_VERSION
     }
-    terms::SECOND_VERSION
 }
 
-// The same road in another version.
+// Whether a road is over 8,000 m and version 1 is wanted.
+fn too_long_for(wanted: u32, road: Road) -> bool
+    ensures { result ≡ too_long_for wanted road }
+{
+    wanted == terms::FIRST_VERSION && terms::GREATEST_SHORT_ROAD < road.length
+}
+
+// The same road in another version. A function of its own: within `convert` the proof would read the signed fields back one by one.
 #[tactic(auto, unfolding(crate::specs::Conversion::in_version))]
 fn in_version(version: u32, road: Road) -> Road
     ensures { result ≡ in_version version road }
 {
-    let mut converted = road;
-    converted.version = version;
-    converted
+    Road { version, ..road }
 }
 
 // Writes the file of the other version at the front of a buffer, and answers how many bytes that is. Refused as reading is, then by
@@ -35,15 +42,11 @@ pub fn convert(file: &[u8], out: &mut [u8]) -> Answer
     ensures answer { result ≡ convert_answer file.now out.old }
     ensures list { out.new ≡ convert_list file.now out.old }
 {
-    let read = file::read(file, terms::GREATEST_LONG_ROAD);
-    let verdict = read.verdict;
-    if let Verdict::Fault(number) = verdict {
-        return Answer::Refused(number);
-    }
-    let road = read.road;
+    let ReadRoad { verdict, road } = file::read(file, terms::GREATEST_LONG_ROAD);
+    verdict?;
     let wanted = other_version(road.version);
-    if (wanted == terms::FIRST_VERSION) & (terms::GREATEST_SHORT_ROAD < road.length) {
-        return Answer::Refused(terms::LONG_ROAD_REFUSED);
+    if too_long_for(wanted, road) {
+        return Err(Refusal::LongRoad);
     }
     writing::write(in_version(wanted, road), out)
 }

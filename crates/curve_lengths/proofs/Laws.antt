@@ -12,19 +12,16 @@ use borrow.Author.Tests.{le-leb, lt-leb, le-ltb, leb-true, leb-false, ltb-true, 
 use lib.Dec.{T, leb, ltb, leb→le, le→leb}
 use lib.IntN.{pos, negsuc, ◌-ℤ◌, ◌*ℤ◌, sub_ℕ}
 use lib.Signed.{◌≤ℤ◌}
-use Rattle.terms.specs.Answers.{outside, eye_or_object_outside, refuse, fault, unless}
-use Rattle.terms.specs.Limits.{least_speed, greatest_speed, greatest_grade_change, greatest_sight_distance, greatest_height, greatest_answered_length}
-use Rattle.terms.specs.Refusals.{speed_refused, grade_change_refused, sight_distance_refused, height_refused, no_length_refused}
-use Rattle.terms.proofs.Laws.{AtMost, refuse_at_most, unless_at_most, fault_byte, not_outside, not_outside_in, heights_not_outside, heights_in}
-use Rattle.terms.specs.declared.Answer.{Answer}
-use Rattle.terms.specs.declared.Answer.TheVariants.{Number, Refused}
-use Rattle.terms.specs.declared.Verdict.{Verdict}
-use Rattle.terms.specs.declared.Verdict.TheVariants.{Accepted}
+use Rattle.terms.specs.Answers.{outside, eye_or_object_outside, refuse, unless, Answer, Verdict, accepted}
+use Rattle.terms.specs.Limits.{least_speed, greatest_speed, greatest_grade_change, greatest_sight_distance, greatest_answered_length}
+use Rattle.terms.specs.declared.Refusal.{Refusal}
+use Rattle.terms.specs.declared.Refusal.TheVariants.{SpeedOutside, GradeChangeOutside, SightDistanceOutside, HeightOutside, NoLength}
+use Rattle.terms.proofs.Laws.{AtMost, refuse_at_most, unless_at_most, not_outside, not_outside_in, heights_not_outside, heights_in}
+use Rattle.std.specs.Prelude.{Ok, Err}
 use Rattle.curve_lengths.specs.Lengths.{within_root, adequate, crest_adequate, sag_adequate, reaches_minimum, long_enough, least_even, least_length, length_verdict, crest_length, sag_length}
 use Rattle.curve_lengths.specs.NeverFallsAway.{KeptByLonger, NeverFallsAway}
 use Rattle.curve_lengths.specs.NoneAdequate.{InRange, HeightsInRange, NoEvenLength, NoneAdequate}
 use Rattle.curve_lengths.specs.SagInequalities.{SagInequalities}
-use Rattle.curve_lengths.specs.Sizes.{Sized}
 
 -- ---- the root
 
@@ -187,8 +184,8 @@ pub record First (test : ℕ → Bool) (l n r : ℕ) : Type 0 where
 
 -- what an answer says of the lengths l, l + 2, …, l + 2 (n − 1): a number is the first that passes, 18 that none does
 abbrev pub FirstEven : (ℕ → Bool) → ℕ → ℕ → Answer → Type 0
-FirstEven test l n (Number r) = First test l n r
-FirstEven test l n (Refused k) = (k ≡ no_length_refused) × ((j : ℕ) → j < n → T (test (l + 2 * j)) → ⊥)
+FirstEven test l n (Ok r) = First test l n r
+FirstEven test l n (Err k) = (k ≡ NoLength) × ((j : ℕ) → j < n → T (test (l + 2 * j)) → ⊥)
 
 module _ (test : ℕ → Bool) where
   -- a failure at l before those from l + 2 on
@@ -201,10 +198,10 @@ module _ (test : ℕ → Bool) where
   -- one length more in front
   first_even_step :
       (c : Bool) (x : Answer) (l n : ℕ) → test l ≡ c → FirstEven test (l + 2) n x →
-      FirstEven test l (suc n) (cond c (Number l) x)
+      FirstEven test l (suc n) (cond c (Ok l) x)
   first_even_step true x l n p i =
       record { index = 0; within = omega arith; place = omega arith; passes = rw p tt; before = λ j h t. omega arith }
-  first_even_step false (Number r) l n p i =
+  first_even_step false (Ok r) l n p i =
       record {
         index = suc i.index;
         within = omega arith;
@@ -212,7 +209,7 @@ module _ (test : ℕ → Bool) where
         passes = i.passes;
         before = fails_from l i.index p i.before;
       }
-  first_even_step false (Refused k) l n p i = (i.0, fails_from l n p i.1)
+  first_even_step false (Err k) l n p i = (i.0, fails_from l n p i.1)
 
   -- the answer is the first length that passes, or 18 where none does
   least_even_is : (l n : ℕ) → FirstEven test l n (least_even test l n)
@@ -225,11 +222,11 @@ module _ (test : ℕ → Bool) where
   no_earlier l n r q f g h = g.before f.index h (rw f.place at f.passes)
 
   first_even_unique : (l n : ℕ) (x y : Answer) → FirstEven test l n x → FirstEven test l n y → x ≡ y
-  first_even_unique l n (Number r) (Number q) f g =
-      ap Number (omega (arith, no_earlier l n r q f g, no_earlier l n q r g f))
-  first_even_unique l n (Number r) (Refused k) f g = absurd (g.1 f.index f.within (rw f.place at f.passes))
-  first_even_unique l n (Refused k) (Number r) f g = absurd (f.1 g.index g.within (rw g.place at g.passes))
-  first_even_unique l n (Refused k) (Refused j) f g = ap Refused (f.0 ∙ sym g.0)
+  first_even_unique l n (Ok r) (Ok q) f g =
+      ap Ok (omega (arith, no_earlier l n r q f g, no_earlier l n q r g f))
+  first_even_unique l n (Ok r) (Err k) f g = absurd (g.1 f.index f.within (rw f.place at f.passes))
+  first_even_unique l n (Err k) (Ok r) f g = absurd (f.1 g.index g.within (rw g.place at g.passes))
+  first_even_unique l n (Err k) (Err j) f g = ap Err (f.0 ∙ sym g.0)
 
   -- and no other answer is so
   least_even_only : (l n : ℕ) (x : Answer) → FirstEven test l n x → x ≡ least_even test l n
@@ -244,19 +241,19 @@ pub record Least (test : ℕ → Bool) (r : ℕ) : Type 0 where
 
 -- what an answer says of the even lengths from 0 to 2,000: a number is the least that passes, 18 that none does
 abbrev LeastOf : (ℕ → Bool) → Answer → Type 0
-LeastOf test (Number r) = Least test r
-LeastOf test (Refused k) = (k ≡ no_length_refused) × NoEvenLength test
+LeastOf test (Ok r) = Least test r
+LeastOf test (Err k) = (k ≡ NoLength) × NoEvenLength test
 
 module _ (test : ℕ → Bool) where
   first_even_least : (x : Answer) → FirstEven test 0 (greatest_answered_length / 2 + 1) x → LeastOf test x
-  first_even_least (Number r) f =
+  first_even_least (Ok r) f =
       record {
         even = omega arith;
         within = omega arith;
         passes = f.passes;
         least = λ m q h t. f.before (m / 2) (omega arith) (subst (λ (x : ℕ). T (test x)) (omega arith) t);
       }
-  first_even_least (Refused k) f =
+  first_even_least (Err k) f =
       (f.0, λ l q h t. f.1 (l / 2) (omega arith) (subst (λ (x : ℕ). T (test x)) (omega arith) t))
 
   -- the answer says so
@@ -269,19 +266,19 @@ module _ (test : ℕ → Bool) where
   least_length_only = least_even_only test 0 (greatest_answered_length / 2 + 1)
 
   least_of_at_most : (x : Answer) → LeastOf test x → AtMost greatest_answered_length x
-  least_of_at_most (Number r) f = f.within
-  least_of_at_most (Refused k) f = omega (arith, f.0)
+  least_of_at_most (Ok r) f = f.within
+  least_of_at_most (Err k) f = tt
 
 -- where a length has to be long enough, 18 says that no even one up to 2,000 is adequate
 least_length_none :
     (v : ℕ) (test : ℕ → Bool) → KeptByLonger test → v ≤ greatest_speed →
-    (least_length (long_enough v test) ≡ Refused no_length_refused) ↔ NoEvenLength test
+    (least_length (long_enough v test) ≡ Err NoLength) ↔ NoEvenLength test
 least_length_none v test kept h =
     let enough = long_enough v test in (
       (λ p l q k t.
-          (least_length_is enough (Refused no_length_refused) p).1 greatest_answered_length refl (omega arith)
+          (least_length_is enough (Err NoLength) p).1 greatest_answered_length refl (omega arith)
           (long_enough_greatest v test kept l h k t)),
-      λ f. sym (least_length_only enough (Refused no_length_refused)
+      λ f. sym (least_length_only enough (Err NoLength)
           (refl, λ j k t. f (0 + 2 * j) (omega arith) (omega arith) ((long_enough_is v test (0 + 2 * j)).0 t).1)),
     )
 
@@ -311,15 +308,15 @@ module _ (test : ℕ → Bool) (low high half : ℕ) (i : Searched test low high
 
 -- where the ends meet they are the first that passes, or past the last: the answer is by where they are
 abbrev pub met_at : ℕ → Answer
-met_at high = refuse (ltb (greatest_answered_length / 2) high) no_length_refused (Number (2 * high))
+met_at high = refuse (ltb (greatest_answered_length / 2) high) NoLength (Ok (2 * high))
 
 searched_met : (c : Bool) (test : ℕ → Bool) (low high : ℕ) → ltb (greatest_answered_length / 2) high ≡ c → Searched test low high →
-    high ≤ low → refuse c no_length_refused (Number (2 * high)) ≡ least_length test
+    high ≤ low → refuse c NoLength (Ok (2 * high)) ≡ least_length test
 searched_met true test low high p i h =
-    least_length_only test (Refused no_length_refused)
+    least_length_only test (Err NoLength)
     (refl, λ j l t. i.below j (omega (arith, ltb-true _ _ p)) (subst (λ (x : ℕ). T (test x)) (omega arith) t))
 searched_met false test low high p i h =
-    least_length_only test (Number (2 * high))
+    least_length_only test (Ok (2 * high))
     (record {
       index = high;
       within = omega (arith, ltb-false _ _ p);
@@ -338,35 +335,30 @@ search_by test low high i = record { searched = i; met = searched_met _ test low
 
 -- ---- the numbers' ranges
 
--- an answer that is no refusal before 18
+-- an answer that is no refusal before 18: a number, or 18
 abbrev NoEarlierRefusal : Answer → Type 0
-NoEarlierRefusal x = (k : ℕ) → k < no_length_refused → Refused k ≡ x → ⊥
-
-number_not_before : (r : ℕ) → NoEarlierRefusal (Number r)
-number_not_before r k h p = let z : ◌≡◌ {A = ℕ} 0 1 = cc in omega arith
-
-none_not_before : NoEarlierRefusal (Refused no_length_refused)
-none_not_before k h p = let z : k ≡ no_length_refused = cc in omega arith
+NoEarlierRefusal (Ok r) = Unit {0}
+NoEarlierRefusal (Err refusal) = refusal ≡ NoLength
 
 -- such an answer passed each test before 18
-refuse_past : (c : Bool) (k : ℕ) (rest : Answer) → k < no_length_refused → NoEarlierRefusal (refuse c k rest) → c ≡ false
-refuse_past true k rest h d = absurd (d k h refl)
+refuse_past : (c : Bool) (k : Refusal) (rest : Answer) → (k ≡ NoLength → ⊥) → NoEarlierRefusal (refuse c k rest) → c ≡ false
+refuse_past true k rest h d = absurd (h d)
 refuse_past false k rest h d = refl
 
 -- so with a verdict's first test; and what the rest of the verdict leaves is such an answer too
-fault_past :
-    (c : Bool) (k : ℕ) (x : Verdict) (rest : Answer) → k < no_length_refused → NoEarlierRefusal (unless (fault c k x) rest) →
+verdict_past :
+    (c : Bool) (k : Refusal) (x : Verdict) (rest : Answer) → (k ≡ NoLength → ⊥) → NoEarlierRefusal (unless (refuse c k x) rest) →
     (c ≡ false) × NoEarlierRefusal (unless x rest)
-fault_past true k x rest h d = absurd (d k h refl)
-fault_past false k x rest h d = (refl, d)
+verdict_past true k x rest h d = absurd (h d)
+verdict_past false k x rest h d = (refl, d)
 
 -- so the three numbers are in their ranges
 length-past : (v a s : ℕ) (rest : Answer) → NoEarlierRefusal (unless (length_verdict v a s) rest) → InRange v a s × NoEarlierRefusal rest
 unfolding length_verdict
 length-past v a s rest d =
-    let speed = fault_past (outside least_speed greatest_speed v) speed_refused _ rest (omega arith) d in
-    let change = fault_past (outside 1 greatest_grade_change a) grade_change_refused _ rest (omega arith) speed.1 in
-    let sight = fault_past (outside 1 greatest_sight_distance s) sight_distance_refused Accepted rest (omega arith) change.1 in (
+    let speed = verdict_past (outside least_speed greatest_speed v) SpeedOutside _ rest (λ e. cc) d in
+    let change = verdict_past (outside 1 greatest_grade_change a) GradeChangeOutside _ rest (λ e. cc) speed.1 in
+    let sight = verdict_past (outside 1 greatest_sight_distance s) SightDistanceOutside accepted rest (λ e. cc) change.1 in (
       record {
         speed = not_outside_in least_speed greatest_speed v speed.0;
         change = not_outside_in 1 greatest_grade_change a change.0;
@@ -376,12 +368,12 @@ length-past v a s rest d =
     )
 
 -- an accepted verdict says so: behind it any answer may come
-pub length_in_range : (v a s : ℕ) → length_verdict v a s ≡ Accepted → InRange v a s
+pub length_in_range : (v a s : ℕ) → length_verdict v a s ≡ accepted → InRange v a s
 length_in_range v a s p =
-    (length-past v a s (Number 0) (subst (λ (x : Verdict). NoEarlierRefusal (unless x (Number 0))) (sym p) (number_not_before 0))).0
+    (length-past v a s (Ok 0) (subst (λ (x : Verdict). NoEarlierRefusal (unless x (Ok 0))) (sym p) tt)).0
 
 -- and it says no more
-length_accepted : (v a s : ℕ) → InRange v a s → length_verdict v a s ≡ Accepted
+length_accepted : (v a s : ℕ) → InRange v a s → length_verdict v a s ≡ accepted
 unfolding length_verdict
 length_accepted v a s h =
     simp (
@@ -394,17 +386,6 @@ length_accepted v a s h =
 pub heights_in_range : (e o : ℕ) → eye_or_object_outside e o ≡ false → HeightsInRange e o
 heights_in_range e o p = let h = heights_in e o p in record { eye = h.0; object = h.1 }
 
--- so they are as large as the search allows, if Q = u + √w is
-pub crest_sized : (v a s u w : ℕ) → length_verdict v a s ≡ Accepted → u ≤ 12000 + 350 * greatest_sight_distance →
-    w ≤ 16 * greatest_height * greatest_height → (v ≤ greatest_speed) × Sized a s u w
-crest_sized v a s u w p h k =
-    let r = length_in_range v a s p in
-    (r.speed.1, record { change = r.change.1; sight = r.sight.1; whole_part = h; under_root = k })
-
-pub sag_sized : (v a s u w : ℕ) → length_verdict v a s ≡ Accepted → u ≤ 12000 + 350 * s →
-    w ≤ 16 * greatest_height * greatest_height → (v ≤ greatest_speed) × Sized a s u w
-sag_sized v a s u w p h k = crest_sized v a s u w p (omega (arith, (length_in_range v a s p).sight.1)) k
-
 -- ---- an answer over any test of adequacy
 
 -- where the numbers are in their ranges it is that of the search, and where they are not it is a refusal before 18
@@ -415,17 +396,17 @@ pub record Answered (ranges : Type 0) (v : ℕ) (test : ℕ → Bool) (answer : 
 
 module _ (ranges : Type 0) (v : ℕ) (test : ℕ → Bool) (answer : Answer) (i : Answered ranges v test answer) where
   -- so a length that is answered is the least even one up to 2,000 that is long enough
-  answered_number : (r : ℕ) → answer ≡ Number r → Least (long_enough v test) r
+  answered_number : (r : ℕ) → answer ≡ Ok r → Least (long_enough v test) r
   answered_number r p =
-      let h = i.ranged (subst NoEarlierRefusal (sym p) (number_not_before r)) in
-      least_length_is (long_enough v test) (Number r) (sym (i.searched h) ∙ p)
+      let h = i.ranged (subst NoEarlierRefusal (sym p) tt) in
+      least_length_is (long_enough v test) (Ok r) (sym (i.searched h) ∙ p)
 
   -- and 18 comes from the search, where no even length up to 2,000 is adequate
-  answered_none : KeptByLonger test → (answer ≡ Refused no_length_refused) ↔ (ranges × NoEvenLength test)
+  answered_none : KeptByLonger test → (answer ≡ Err NoLength) ↔ (ranges × NoEvenLength test)
   answered_none kept =
       let none = least_length_none v test kept in (
         (λ p.
-            let h = i.ranged (subst NoEarlierRefusal (sym p) none_not_before) in
+            let h = i.ranged (subst NoEarlierRefusal (sym p) refl) in
             (h, (none (i.speed h)).0 (sym (i.searched h) ∙ p))),
         λ b. i.searched b.0 ∙ (none (i.speed b.0)).1 b.1,
       )
@@ -440,7 +421,7 @@ crest_answered v a s e o =
       searched = λ h. rw (length_accepted v a s h.0, heights_not_outside e o h.1.eye h.1.object) refl;
       ranged = λ d.
           let numbers = length-past v a s _ d in
-          (numbers.0, heights_in_range e o (refuse_past (eye_or_object_outside e o) height_refused _ (omega arith) numbers.1));
+          (numbers.0, heights_in_range e o (refuse_past (eye_or_object_outside e o) HeightOutside _ (λ e. cc) numbers.1));
       speed = λ h. h.0.speed.1;
     }
 
@@ -453,10 +434,10 @@ sag_answered v a s =
       speed = λ h. h.speed.1;
     }
 
-pub crest_length_number : (v a s e o r : ℕ) → crest_length v a s e o ≡ Number r → Least (long_enough v (crest_adequate a s e o)) r
+pub crest_length_number : (v a s e o r : ℕ) → crest_length v a s e o ≡ Ok r → Least (long_enough v (crest_adequate a s e o)) r
 crest_length_number v a s e o = answered_number _ v (crest_adequate a s e o) _ (crest_answered v a s e o)
 
-pub sag_length_number : (v a s r : ℕ) → sag_length v a s ≡ Number r → Least (long_enough v (sag_adequate a s)) r
+pub sag_length_number : (v a s r : ℕ) → sag_length v a s ≡ Ok r → Least (long_enough v (sag_adequate a s)) r
 sag_length_number v a s = answered_number _ v (sag_adequate a s) _ (sag_answered v a s)
 
 pub none_adequate : NoneAdequate
@@ -472,8 +453,5 @@ unfolding crest_length length_verdict
 crest_length_at_most v a s e o =
     let test = long_enough v (crest_adequate a s e o) in
     unless_at_most (length_verdict v a s) _ _
-    (fault_byte (outside least_speed greatest_speed v) _ _ (omega arith)
-    (fault_byte (outside 1 greatest_grade_change a) _ _ (omega arith)
-    (fault_byte (outside 1 greatest_sight_distance s) _ _ (omega arith) tt)))
-    (λ h. refuse_at_most (eye_or_object_outside e o) _ _ _ (omega arith)
+    (λ h. refuse_at_most (eye_or_object_outside e o) _ _ _
     (λ t. least_of_at_most test (least_length test) (least_length_is test (least_length test) refl)))

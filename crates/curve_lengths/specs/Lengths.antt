@@ -8,14 +8,10 @@
 -- side is positive, the right side is not negative, and it holds exactly when (x − y)² ≤ z.
 -- For a sag a is the rise, u = 12,000 + 350 S and w = 0. A root of 0 changes nothing, so the two inequalities are the plain
 -- ones with Q = u: that is the theorem SagInequalities.
-use Rattle.std.specs.Prelude.{ℕ, zero, suc, ◌+◌, ◌*◌, ◌-◌, ◌/◌, Bool, cond, ◌||◌, ◌&&◌, leb}
-use Rattle.terms.specs.Answers.{outside, eye_or_object_outside, refuse, fault, unless}
+use Rattle.std.specs.Prelude.{ℕ, zero, suc, ◌+◌, ◌*◌, ◌-◌, ◌/◌, Bool, cond, ◌||◌, ◌&&◌, leb, Ok, Err}
+use Rattle.terms.specs.Answers.{outside, eye_or_object_outside, refuse, unless, Answer, Verdict, accepted}
 use Rattle.terms.specs.Limits.{least_speed, greatest_speed, greatest_grade_change, greatest_sight_distance, greatest_answered_length}
-use Rattle.terms.specs.Refusals.{speed_refused, grade_change_refused, sight_distance_refused, height_refused, no_length_refused}
-use Rattle.terms.specs.declared.Answer.{Answer}
-use Rattle.terms.specs.declared.Answer.TheVariants.{Number, Refused}
-use Rattle.terms.specs.declared.Verdict.{Verdict}
-use Rattle.terms.specs.declared.Verdict.TheVariants.{Accepted}
+use Rattle.terms.specs.declared.Refusal.TheVariants.{SpeedOutside, GradeChangeOutside, SightDistanceOutside, HeightOutside, NoLength}
 
 -- x − y ≤ √z: the sign of the left side first, then the squares
 unfoldable pub within_root : ℕ → ℕ → ℕ → Bool
@@ -47,8 +43,8 @@ long_enough v test l = reaches_minimum v l && test l
 
 -- the first of n lengths l, l + 2, l + 4, … that passes the test; refused 18 where none does
 unfoldable pub least_even : (ℕ → Bool) → ℕ → ℕ → Answer
-least_even test l zero = Refused no_length_refused
-least_even test l (suc n) = cond (test l) (Number l) (least_even test (l + 2) n)
+least_even test l zero = Err NoLength
+least_even test l (suc n) = cond (test l) (Ok l) (least_even test (l + 2) n)
 
 -- the least even length from 0 to 2,000 that passes the test; refused 18 where none does
 abbrev pub least_length : (ℕ → Bool) → Answer
@@ -57,16 +53,16 @@ least_length test = least_even test 0 (greatest_answered_length / 2 + 1)
 -- what crests and sags are refused alike, of a speed V, a change in grade a and a sight distance S: 6, 15, 16
 unfoldable pub length_verdict : ℕ → ℕ → ℕ → Verdict
 length_verdict v a s =
-    fault (outside least_speed greatest_speed v) speed_refused
-    (fault (outside 1 greatest_grade_change a) grade_change_refused
-    (fault (outside 1 greatest_sight_distance s) sight_distance_refused Accepted))
+    refuse (outside least_speed greatest_speed v) SpeedOutside
+    (refuse (outside 1 greatest_grade_change a) GradeChangeOutside
+    (refuse (outside 1 greatest_sight_distance s) SightDistanceOutside accepted))
 
 -- the crest length of a speed V, a drop a, a sight distance S, an eye height e and an object height o: refused 6, 15, 16, 17,
 -- then 18; else the least even length from 0 to 2,000 that is adequate and reaches the minimum
 unfoldable pub crest_length : ℕ → ℕ → ℕ → ℕ → ℕ → Answer
 crest_length v a s e o =
     unless (length_verdict v a s)
-    (refuse (eye_or_object_outside e o) height_refused
+    (refuse (eye_or_object_outside e o) HeightOutside
     (least_length (long_enough v (crest_adequate a s e o))))
 
 -- the sag length of a speed V, a rise a and a sight distance S: refused 6, 15, 16, then 18; else the least even length from 0 to 2,000

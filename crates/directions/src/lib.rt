@@ -4,7 +4,7 @@
 ghost use Rattle.std.specs.Prelude.{◌≡◌};
 ghost use Rattle.directions.specs.Directions.{counted, driven_grade};
 
-// Towards rising stations, as the road is measured.
+// Towards rising stations, as the road is measured. A direction is one of two, and C hands it in as a bool.
 pub const FORWARD: bool = false;
 
 // The place of a station among `n` stations in the order in which a driver meets them, and the station at such a place. Backward it is 0
@@ -13,12 +13,10 @@ pub fn counted(back: bool, n: usize, k: usize) -> usize
     ensures { result ≡ counted back n k }
 {
     if back {
-        if n <= k {
-            return 0;
-        }
-        return n - 1 - k;
+        n.saturating_sub(1).saturating_sub(k)
+    } else {
+        k
     }
-    k
 }
 
 // A grade as it is driven. Its range is tested before its sign changes: one out of range stays as it is.
@@ -29,8 +27,5 @@ pub fn driven_grade(back: bool, grade: i32) -> i32
     if terms::grade_outside(grade) {
         return grade;
     }
-    if back {
-        return -grade;
-    }
-    grade
+    if back { -grade } else { grade }
 }

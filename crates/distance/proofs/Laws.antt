@@ -122,9 +122,9 @@ metres_small v p g s u =
 pub required_at_most : (v p : ℕ) (g : ℤ) → AtMost 870 (required_distance v p g)
 unfolding required_distance
 required_at_most v p g =
-    refuse_at_most (outside least_speed greatest_speed v) _ _ _ (omega arith) (λ s.
-    refuse_at_most (ltb last_purpose p) _ _ _ (omega arith) (λ t.
-    refuse_at_most (grade_outside g) _ _ _ (omega arith) (λ u.
+    refuse_at_most (outside least_speed greatest_speed v) _ _ _ (λ s.
+    refuse_at_most (ltb last_purpose p) _ _ _ (λ t.
+    refuse_at_most (grade_outside g) _ _ _ (λ u.
     metres_at_most v (purpose_row p) g (inside least_speed greatest_speed v s).1 (reaction_small p) (grade_inside g u))))
 
 pub distances_at_most : (v p : ℕ) (g : ℤ) → ((distances_for v p g).stopping ≤ 870) × ((distances_for v p g).decision ≤ 870)

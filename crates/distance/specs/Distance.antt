@@ -9,12 +9,10 @@
 -- bracket is b / 9,810,000 with b = 3,400,000 + 981 g. Over the one denominator 635,000 b both terms are whole numbers:
 --   0.278 V t / 10 = 17,653 V t b / (635,000 b), since 0.0278 × 635,000 = 17,653;
 --   V² / (254 b / 9,810,000) = 24,525,000,000 V² / (635,000 b), since 9,810,000 × 635,000 / 254 = 24,525,000,000.
-use Rattle.std.specs.Prelude.{ℕ, ◌+◌, ◌*◌, ◌-◌, ◌/◌, Bool, true, false, not, cond, ◌&&◌, List, [], ◌∷◌, ltb, eqb, ℤ, pos, nat_abs, ◌+ℤ◌, ◌*ℤ◌, get_or}
-use Rattle.terms.specs.Answers.{outside, grade_outside, refuse, value_or_zero}
+use Rattle.std.specs.Prelude.{ℕ, ◌+◌, ◌*◌, ◌-◌, ◌/◌, Bool, true, false, not, cond, ◌&&◌, List, [], ◌∷◌, ltb, eqb, ℤ, pos, nat_abs, ◌+ℤ◌, ◌*ℤ◌, get_or, Ok}
+use Rattle.terms.specs.Answers.{outside, grade_outside, refuse, value_or_zero, Answer}
 use Rattle.terms.specs.Limits.{least_speed, greatest_speed, stopping_purpose, last_purpose}
-use Rattle.terms.specs.Refusals.{speed_refused, purpose_refused, grade_refused}
-use Rattle.terms.specs.declared.Answer.{Answer}
-use Rattle.terms.specs.declared.Answer.TheVariants.{Number}
+use Rattle.terms.specs.declared.Refusal.TheVariants.{SpeedOutside, WrongPurpose, GradeOutside}
 use Rattle.distance.specs.declared.Distances.{Distances}
 use Rattle.distance.specs.declared.Purpose.{Purpose}
 
@@ -63,10 +61,10 @@ metres_for v p g = cond (p.braking && not (eqb (nat_abs g) 0)) (graded_metres v 
 -- the required distance of a speed and a purpose on a grade: refused 6, then 7, then 10
 unfoldable pub required_distance : ℕ → ℕ → ℤ → Answer
 required_distance v p g =
-    refuse (outside least_speed greatest_speed v) speed_refused
-    (refuse (ltb last_purpose p) purpose_refused
-    (refuse (grade_outside g) grade_refused
-    (Number (metres_for v (purpose_row p) g))))
+    refuse (outside least_speed greatest_speed v) SpeedOutside
+    (refuse (ltb last_purpose p) WrongPurpose
+    (refuse (grade_outside g) GradeOutside
+    (Ok (metres_for v (purpose_row p) g))))
 
 -- what a speed needs on a grade to stop, and to decide for a purpose; 0 where that is refused
 unfoldable pub distances_for : ℕ → ℕ → ℤ → Distances

@@ -6,12 +6,10 @@
 -- Here t1, t2, v and m are in tenths and a in hundredths. Over the one denominator 30,000,000 all four are whole numbers:
 --   0.278 (t1 / 10) ((v − m) / 10 + (a / 100) (t1 / 10) / 2) = 417 t1 (200 (v − m) + a t1) / 30,000,000, since 0.0278 × 30,000,000 / 2,000 = 417;
 --   0.278 (v / 10) (t2 / 10) = 83,400 v t2 / 30,000,000, since 0.00278 × 30,000,000 = 83,400, and two thirds of 83,400 are 55,600.
-use Rattle.std.specs.Prelude.{ℕ, ◌+◌, ◌*◌, ◌-◌, Bool, ◌||◌}
-use Rattle.terms.specs.Answers.{outside, refuse}
+use Rattle.std.specs.Prelude.{ℕ, ◌+◌, ◌*◌, ◌-◌, Bool, ◌||◌, Ok}
+use Rattle.terms.specs.Answers.{outside, refuse, Answer}
 use Rattle.terms.specs.Limits.{least_initial_time, greatest_initial_time, least_acceleration, greatest_acceleration, least_passing_speed, greatest_passing_speed, least_speed_difference, greatest_speed_difference, least_left_lane_time, greatest_left_lane_time, least_clearance, greatest_clearance}
-use Rattle.terms.specs.Refusals.{manoeuvre_refused}
-use Rattle.terms.specs.declared.Answer.{Answer}
-use Rattle.terms.specs.declared.Answer.TheVariants.{Number}
+use Rattle.terms.specs.declared.Refusal.TheVariants.{ManoeuvreOutside}
 use Rattle.distance.specs.declared.Manoeuvre.{Manoeuvre}
 use Rattle.distance.specs.Distance.{up_to_five}
 
@@ -47,4 +45,4 @@ manoeuvre_outside w =
 
 -- the passing distance of a manoeuvre: refused 24; else the sum, rounded up to a multiple of 5 m
 unfoldable pub passing_distance : Manoeuvre → Answer
-passing_distance w = refuse (manoeuvre_outside w) manoeuvre_refused (Number (up_to_five (passing_parts w) passing_metre))
+passing_distance w = refuse (manoeuvre_outside w) ManoeuvreOutside (Ok (up_to_five (passing_parts w) passing_metre))

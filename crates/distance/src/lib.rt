@@ -7,28 +7,45 @@ ghost use Rattle.terms.specs.Limits.{least_speed, greatest_speed, last_purpose};
 ghost use Rattle.distance.specs.Distance.{required_distance, distances_for, metres_for, level_metres, graded_metres, purpose_row, deceleration_parts, up_to_five};
 ghost use Rattle.distance.specs.PassingDistance.{manoeuvre_outside, passing_parts, passing_distance};
 
-use terms::Answer;
+use terms::{
+    Answer, GREATEST_ACCELERATION, GREATEST_CLEARANCE, GREATEST_INITIAL_TIME,
+    GREATEST_LEFT_LANE_TIME, GREATEST_PASSING_SPEED, GREATEST_SPEED_DIFFERENCE, LEAST_ACCELERATION,
+    LEAST_CLEARANCE, LEAST_INITIAL_TIME, LEAST_LEFT_LANE_TIME, LEAST_PASSING_SPEED,
+    LEAST_SPEED_DIFFERENCE, Refusal, outside,
+};
 
 mod sheet;
 
 // A purpose's reaction time in tenths of a second, and whether the braking term counts.
-#[derive(Clone, Copy)]
+#[derive(Clone, Copy, Debug, PartialEq, Eq)]
 pub struct Purpose {
     pub reaction: u64,
     pub braking: bool,
 }
 
 // What a speed needs on a grade to stop, and to decide for a purpose, in metres.
-#[derive(Clone, Copy)]
+#[derive(Clone, Copy, Debug, PartialEq, Eq)]
 pub struct Distances {
     pub stopping: u32,
     pub decision: u32,
 }
 
+// A driver at a speed in km/h who has to see far enough for a purpose, 0 stopping, 1 to 5 decision A to E, on a grade in hundredths of a
+// percent, uphill positive.
+#[derive(Clone, Copy)]
+struct Driver {
+    speed: u64,
+    purpose: usize,
+    grade: i32,
+    ghost speed_in: { (least_speed ≤ speed) × (speed ≤ greatest_speed) },
+    ghost purpose_in: { purpose ≤ last_purpose },
+    ghost grade_in: { grade_outside grade ≡ false },
+}
+
 // How a car passes another: the time t1 of its initial manoeuvre in tenths of a second, its acceleration a in hundredths of km/h per
 // second, its speed v and how much faster m it is than the other in tenths of km/h, its time t2 in the left lane in tenths of a second,
 // and the clearance d3 in metres that is left to an oncoming car.
-#[derive(Clone, Copy)]
+#[derive(Clone, Copy, Debug, PartialEq, Eq)]
 pub struct Manoeuvre {
     pub t1: u32,
     pub a: u32,
@@ -75,68 +92,72 @@ fn up_to_five(num: u64, den: u64) -> u64
     requires { (0 < den) × (num < 1000000000000000000) × (den < 1000000000000000000) }
     ensures { result ≡ up_to_five num den }
 {
-    let five = 5 * den;
-    5 * ((num + (five - 1)) / five)
+    5 * num.div_ceil(5 * den)
 }
 
-// The distance on a level road, in metres, off the sheet.
-#[tactic(auto, unfolding(crate::specs::Distance::level_metres))]
-fn level_metres(speed: u64, purpose: usize) -> u16
-    requires { (least_speed ≤ speed) × (speed ≤ greatest_speed) × (purpose ≤ last_purpose) }
-    ensures { result ≡ level_metres speed (purpose_row purpose) }
-{
-    let at = (speed - terms::LEAST_SPEED as u64) as usize;
-    sheet::LEVEL_METRES[purpose][at]
-}
-
-// 3.4 / 9.81 + G, G being the grade as a fraction, in parts of which 9,810,000 make one.
-fn deceleration_parts(grade: i32) -> u64
-    requires { grade_outside grade ≡ false }
-    ensures { result ≡ deceleration_parts grade }
-{
-    (3400000 + 981 * grade as i64) as u64
-}
-
-// The distance on a grade, braking counted: 0.278 V T + V² / (254 (3.4 / 9.81 + G)) metres, over the denominator 635,000 b.
-#[tactic(auto, unfolding(crate::specs::Distance::graded_metres))]
-fn graded_metres(speed: u64, row: Purpose, grade: i32) -> u64
-    requires { (speed ≤ greatest_speed) × (row.reaction ≤ 145) × (grade_outside grade ≡ false) }
-    ensures { result ≡ graded_metres speed row grade }
-{
-    let b = deceleration_parts(grade);
-    let parts = 17653 * speed * row.reaction * b + 24525000000 * speed * speed;
-    up_to_five(parts, 635000 * b)
-}
-
-// The distance for a purpose: worked out where braking meets a grade, else read off the sheet.
-#[tactic(auto, unfolding(crate::specs::Distance::metres_for))]
-fn metres_for(speed: u64, purpose: usize, grade: i32) -> u64
-    requires { (least_speed ≤ speed) × (speed ≤ greatest_speed) × (purpose ≤ last_purpose) × (grade_outside grade ≡ false) }
-    ensures { result ≡ metres_for speed (purpose_row purpose) grade }
-{
-    let row = PURPOSES[purpose];
-    if row.braking & (grade != 0) {
-        return graded_metres(speed, row, grade);
+impl Driver {
+    // The distance on a level road, in metres, off the sheet.
+    #[tactic(auto, unfolding(crate::specs::Distance::level_metres))]
+    fn level_metres(self) -> u16
+        ensures { result ≡ level_metres self.speed (purpose_row self.purpose) }
+    {
+        let at = (self.speed - u64::from(terms::LEAST_SPEED)) as usize;
+        sheet::LEVEL_METRES[self.purpose][at]
     }
-    level_metres(speed, purpose) as u64
+
+    // 3.4 / 9.81 + G, G being the grade as a fraction, in parts of which 9,810,000 make one.
+    fn deceleration_parts(self) -> u64
+        ensures parts { result ≡ deceleration_parts self.grade }
+        ensures in_range { (1928500 ≤ result) × (result ≤ 4871500) }
+    {
+        (3400000 + 981 * i64::from(self.grade)) as u64
+    }
+
+    // The distance on a grade, braking counted: 0.278 V T + V² / (254 (3.4 / 9.81 + G)) metres, over the denominator 635,000 b.
+    #[tactic(auto, unfolding(crate::specs::Distance::graded_metres, crate::specs::Distance::graded_parts))]
+    fn graded_metres(self) -> u64
+        ensures { result ≡ graded_metres self.speed (purpose_row self.purpose) self.grade }
+    {
+        let speed = self.speed;
+        let reaction = PURPOSES[self.purpose].reaction;
+        let b = self.deceleration_parts();
+        let parts = 17653 * speed * reaction * b + 24525000000 * speed * speed;
+        up_to_five(parts, 635000 * b)
+    }
+
+    // The distance for the purpose: worked out where braking meets a grade, else read off the sheet.
+    #[tactic(auto, unfolding(crate::specs::Distance::metres_for))]
+    fn metres(self) -> u64
+        ensures { result ≡ metres_for self.speed (purpose_row self.purpose) self.grade }
+    {
+        if PURPOSES[self.purpose].braking && self.grade != 0 {
+            return self.graded_metres();
+        }
+        u64::from(self.level_metres())
+    }
 }
 
 // The distance that a driver at `speed` km/h needs for a purpose, 0 stopping, 1 to 5 decision A to E, on a grade in hundredths of a
-// percent, uphill positive.
+// percent, uphill positive. A purpose is any number, and one over 5 is refused.
 #[tactic(auto, unfolding(crate::specs::Distance::required_distance))]
 pub fn required_distance(speed: u32, purpose: u32, grade: i32) -> Answer
     ensures { result ≡ required_distance speed purpose grade }
 {
-    if terms::outside(terms::LEAST_SPEED, terms::GREATEST_SPEED, speed) {
-        return Answer::Refused(terms::SPEED_REFUSED);
+    if outside(terms::LEAST_SPEED, terms::GREATEST_SPEED, speed) {
+        return Err(Refusal::SpeedOutside);
     }
     if terms::LAST_PURPOSE < purpose {
-        return Answer::Refused(terms::PURPOSE_REFUSED);
+        return Err(Refusal::WrongPurpose);
     }
     if terms::grade_outside(grade) {
-        return Answer::Refused(terms::GRADE_REFUSED);
+        return Err(Refusal::GradeOutside);
     }
-    Answer::Number(metres_for(speed as u64, purpose as usize, grade) as u32)
+    let driver = Driver {
+        speed: u64::from(speed),
+        purpose: purpose as usize,
+        grade,
+    };
+    Ok(driver.metres() as u32)
 }
 
 // The distance to stop and the one to decide on a grade; 0 where it is refused.
@@ -152,51 +173,38 @@ pub fn distances_for(speed: u32, purpose: u32, grade: i32) -> Distances
     }
 }
 
-// Whether any value of a manoeuvre is outside its range.
-#[tactic(auto, unfolding(crate::specs::PassingDistance::manoeuvre_outside))]
-fn manoeuvre_outside(w: Manoeuvre) -> bool
-    ensures { result ≡ manoeuvre_outside w }
-{
-    terms::outside(
-        terms::LEAST_INITIAL_TIME,
-        terms::GREATEST_INITIAL_TIME,
-        w.t1,
-    ) | terms::outside(terms::LEAST_ACCELERATION, terms::GREATEST_ACCELERATION, w.a)
-        | terms::outside(
-            terms::LEAST_PASSING_SPEED,
-            terms::GREATEST_PASSING_SPEED,
-            w.v,
-        )
-        | terms::outside(
-            terms::LEAST_SPEED_DIFFERENCE,
-            terms::GREATEST_SPEED_DIFFERENCE,
-            w.m,
-        )
-        | terms::outside(
-            terms::LEAST_LEFT_LANE_TIME,
-            terms::GREATEST_LEFT_LANE_TIME,
-            w.t2,
-        )
-        | terms::outside(terms::LEAST_CLEARANCE, terms::GREATEST_CLEARANCE, w.d3)
-}
+impl Manoeuvre {
+    // Whether any of its values is outside its range.
+    #[tactic(auto, unfolding(crate::specs::PassingDistance::manoeuvre_outside))]
+    fn is_outside(self) -> bool
+        ensures { result ≡ manoeuvre_outside self }
+    {
+        outside(LEAST_INITIAL_TIME, GREATEST_INITIAL_TIME, self.t1)
+            || outside(LEAST_ACCELERATION, GREATEST_ACCELERATION, self.a)
+            || outside(LEAST_PASSING_SPEED, GREATEST_PASSING_SPEED, self.v)
+            || outside(LEAST_SPEED_DIFFERENCE, GREATEST_SPEED_DIFFERENCE, self.m)
+            || outside(LEAST_LEFT_LANE_TIME, GREATEST_LEFT_LANE_TIME, self.t2)
+            || outside(LEAST_CLEARANCE, GREATEST_CLEARANCE, self.d3)
+    }
 
-// The passing distance before rounding: the initial manoeuvre, the left lane, the clearance, and the oncoming car's two thirds of the
-// time in the left lane.
-#[tactic(auto, unfolding(crate::specs::PassingDistance::passing_parts))]
-fn passing_parts(w: Manoeuvre) -> u64
-    requires { manoeuvre_outside w ≡ false }
-    ensures { result ≡ passing_parts w }
-{
-    let t1 = w.t1 as u64;
-    let a = w.a as u64;
-    let v = w.v as u64;
-    let t2 = w.t2 as u64;
-    let passed = v - w.m as u64;
-    let d1 = 417 * t1 * (200 * passed + a * t1);
-    let d2 = 83400 * v * t2;
-    let d3 = PASSING_METRE * w.d3 as u64;
-    let d4 = 55600 * v * t2;
-    d1 + d2 + d3 + d4
+    // Its passing distance before rounding: the initial manoeuvre, the left lane, the clearance, and the oncoming car's two thirds of
+    // the time in the left lane.
+    #[tactic(auto, using(crate::proofs::PassingDistance::within), unfolding(crate::specs::PassingDistance::passing_parts, crate::specs::PassingDistance::initial_parts, crate::specs::PassingDistance::left_lane_parts, crate::specs::PassingDistance::oncoming_parts))]
+    fn parts(self) -> u64
+        requires { manoeuvre_outside self ≡ false }
+        ensures { result ≡ passing_parts self }
+    {
+        let t1 = u64::from(self.t1);
+        let a = u64::from(self.a);
+        let v = u64::from(self.v);
+        let t2 = u64::from(self.t2);
+        let passed = v - u64::from(self.m);
+        let d1 = 417 * t1 * (200 * passed + a * t1);
+        let d2 = 83400 * v * t2;
+        let d3 = PASSING_METRE * u64::from(self.d3);
+        let d4 = 55600 * v * t2;
+        d1 + d2 + d3 + d4
+    }
 }
 
 // The distance that a driver needs to see to pass another car.
@@ -204,8 +212,8 @@ fn passing_parts(w: Manoeuvre) -> u64
 pub fn passing_distance(w: Manoeuvre) -> Answer
     ensures { result ≡ passing_distance w }
 {
-    if manoeuvre_outside(w) {
-        return Answer::Refused(terms::MANOEUVRE_REFUSED);
+    if w.is_outside() {
+        return Err(Refusal::ManoeuvreOutside);
     }
-    Answer::Number(up_to_five(passing_parts(w), PASSING_METRE) as u32)
+    Ok(up_to_five(w.parts(), PASSING_METRE) as u32)
 }

@@ -7,6 +7,8 @@ ghost use Rattle.terms.specs.Answers.{signed};
 ghost use Rattle.sight.specs.Operations.{sight_answer, profile_answer, profile_list};
 ghost use Rattle.sight.specs.Comparisons.{comparisons_answer};
 
+use verdicts::Look;
+
 #[unsafe(no_mangle)]
 pub extern "C" fn vcp_slow_sight(
     heights: &[i32],
@@ -18,7 +20,12 @@ pub extern "C" fn vcp_slow_sight(
 ) -> i64
     ensures { result ≡ signed (sight_answer heights.now back station eye object farthest) }
 {
-    terms::signed_answer(slow_sight::sight(heights, back, station, eye, object, farthest))
+    let look = Look {
+        eye,
+        object,
+        farthest,
+    };
+    terms::signed_answer(slow_sight::sight(heights, back, station, look))
 }
 
 #[unsafe(no_mangle)]
@@ -33,7 +40,12 @@ pub extern "C" fn vcp_slow_sight_profile(
     ensures answer { result ≡ signed (profile_answer heights.now eye object farthest sights.old) }
     ensures list { sights.new ≡ profile_list heights.now back eye object farthest sights.old }
 {
-    terms::signed_answer(slow_sight::profile(heights, back, eye, object, farthest, sights))
+    let look = Look {
+        eye,
+        object,
+        farthest,
+    };
+    terms::signed_answer(slow_sight::profile(heights, back, look, sights))
 }
 
 #[unsafe(no_mangle)]
@@ -47,5 +59,10 @@ pub extern "C" fn vcp_sight_comparisons(
 ) -> i64
     ensures { result ≡ signed (comparisons_answer heights.now back station eye object farthest) }
 {
-    terms::signed_answer(sight::comparisons(heights, back, station, eye, object, farthest))
+    let look = Look {
+        eye,
+        object,
+        farthest,
+    };
+    terms::signed_answer(sight::comparisons(heights, back, station, look))
 }

@@ -5,7 +5,7 @@ use Rattle.std.specs.Prelude.{ℕ, List, ◌≡◌}
 use contract.Lifetimes.{Lfts}
 use denote.Triple.Clauses.{AtExit}
 use borrow.Fn.Kinds.{Dens, ended_of}
-use Rattle.terms.specs.declared.Answer.{Answer}
+use Rattle.terms.specs.Answers.{Answer}
 use Rattle.sight.proofs.sight.Kinds as sight
 use Rattle.sight.proofs.sight.Reads.{Learnt as QuickSight}
 use Rattle.sight.proofs.profile.Kinds as profile
@@ -15,7 +15,7 @@ use Rattle.slow_sight.proofs.profile.Reads.{Learnt as SlowProfile}
 
 -- the list of sights among what was lent, as it is at the end
 abbrev sights_in : (κs : Lfts 2) → AtExit (ended_of 2 profile.ps profile.r) κs → List ℕ
-sights_in κs end = end.1.1.1.1.1.0.now
+sights_in κs end = end.1.1.1.0.now
 
 pub record SameSights : Type 0 where
   -- from one station: to the same call both answer the same

@@ -1,3 +1,4 @@
+pub mod Numbers
 pub mod Overlong
 pub mod Sound
 pub mod Stations

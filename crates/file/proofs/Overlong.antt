@@ -9,33 +9,33 @@ use borrow.Author.Tests.{le-ltb, ltb-false, ne_eqb}
 use lib.Dec.{ltb}
 use lib.ListN.{length, take}
 use lib.Seq.{get_or-take, length-take-le}
-use Rattle.terms.specs.Answers.{outside, fault, first_fault}
+use Rattle.terms.specs.Answers.{outside, refuse, unless, Verdict, accepted}
 use Rattle.terms.specs.Limits.{first_version, second_version, greatest_curve_count}
-use Rattle.terms.specs.Refusals.{letters_refused, version_refused, curve_count_refused, total_refused}
-use Rattle.terms.specs.declared.Verdict.{Verdict}
-use Rattle.terms.specs.declared.Verdict.TheVariants.{Accepted, Fault}
+use Rattle.terms.specs.declared.Refusal.{Refusal}
+use Rattle.terms.specs.declared.Refusal.TheVariants.{WrongLetters, WrongVersion, TooManyCurves, WrongTotal}
+use Rattle.std.specs.Prelude.{Err}
 use Rattle.file.specs.File.{byte_at, number_at, station_bytes, file_length, version_in, curve_count}
 use Rattle.file.specs.Reading.{differs, header_verdict, read_verdict_up_to, enough_bytes, EnoughToRead}
 use Rattle.file.proofs.Sound.{read_by}
 use Rattle.file.proofs.Stations.{station_size, second_station, longest_file}
 
 -- its refusal: 2, 3, 4, else 5
-overlong_fault : List ℕ → ℕ
+overlong_fault : List ℕ → Refusal
 overlong_fault s =
-    cond (differs s 0 || differs s 1 || differs s 2) letters_refused
-    (cond (outside first_version second_version (version_in s)) version_refused
-    (cond (ltb greatest_curve_count (curve_count s)) curve_count_refused total_refused))
+    cond (differs s 0 || differs s 1 || differs s 2) WrongLetters
+    (cond (outside first_version second_version (version_in s)) WrongVersion
+    (cond (ltb greatest_curve_count (curve_count s)) TooManyCurves WrongTotal))
 
 -- the table of 2 to 5, where 5 applies unless 4 does
 else_total : (a b c d : Bool) (rest : Verdict) → (c ≡ false → d ≡ true) →
-    first_fault (fault a letters_refused (fault b version_refused (fault c curve_count_refused (fault d total_refused Accepted)))) rest
-    ≡ Fault (cond a letters_refused (cond b version_refused (cond c curve_count_refused total_refused)))
+    unless (refuse a WrongLetters (refuse b WrongVersion (refuse c TooManyCurves (refuse d WrongTotal accepted)))) rest
+    ≡ Err (cond a WrongLetters (cond b WrongVersion (cond c TooManyCurves WrongTotal)))
 else_total true b c d rest e = refl
 else_total false true c d rest e = refl
 else_total false false true d rest e = refl
 else_total false false false d rest e = rw (e refl)
 
-overlong : (most : ℕ) (s : List ℕ) → enough_bytes ≤ length s → read_verdict_up_to most s ≡ Fault (overlong_fault s)
+overlong : (most : ℕ) (s : List ℕ) → enough_bytes ≤ length s → read_verdict_up_to most s ≡ Err (overlong_fault s)
 unfolding read_verdict_up_to header_verdict overlong_fault
 overlong most s l =
     rw (

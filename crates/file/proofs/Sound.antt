@@ -9,14 +9,11 @@ use mir.Facts.{or_no}
 use lib.Dec.{ltb, eqb, nltb→le}
 use lib.ListN.{length, get_or, length-replicate}
 use Rattle.whole.proofs.Fill.{filled-length, filled_at}
-use Rattle.terms.specs.Answers.{outside}
+use Rattle.terms.specs.Answers.{outside, Verdict, accepted}
 use Rattle.terms.specs.Limits.{first_version, second_version, greatest_curve_count}
-use Rattle.terms.specs.Refusals.{short_file_refused, letters_refused, version_refused, curve_count_refused, total_refused}
-use Rattle.terms.specs.declared.Verdict.{Verdict}
-use Rattle.terms.specs.declared.Verdict.TheVariants.{Accepted}
-use Rattle.terms.proofs.Laws.{ByteFault, fault_accepted, first_fault_accepted, fault_byte, first_fault_byte, no_difference, inside}
+use Rattle.terms.specs.declared.Refusal.TheVariants.{ShortFile, WrongLetters, WrongVersion, TooManyCurves, WrongTotal}
+use Rattle.terms.proofs.Laws.{refuse_accepted, unless_accepted, no_difference, inside}
 use Rattle.road.specs.Road.{no_curve, verdict_up_to}
-use Rattle.road.proofs.Faults.{verdict_byte}
 use Rattle.file.specs.declared.ReadRoad.{ReadRoad}
 use Rattle.file.specs.File.{byte_at, file_length, letters, version_in, curve_count, curve_at, road_in}
 use Rattle.file.specs.Reading.{differs, header_verdict, read_verdict_up_to, road_or_none, read_up_to}
@@ -32,38 +29,31 @@ pub record SoundHeader (s : List ℕ) : Type 0 where
   pub count : curve_count s ≤ greatest_curve_count
   pub total : length s ≡ file_length (version_in s) (curve_count s)
 
-pub accepted_header : (s : List ℕ) → header_verdict s ≡ Accepted → SoundHeader s
+pub accepted_header : (s : List ℕ) → header_verdict s ≡ accepted → SoundHeader s
 unfolding header_verdict
 accepted_header s e =
-    let short = fault_accepted (ltb (length s) (file_length first_version 0)) short_file_refused _ e in
-    let spelled = fault_accepted (differs s 0 || differs s 1 || differs s 2) letters_refused _ short.1 in
-    let versions = fault_accepted (outside first_version second_version (version_in s)) version_refused _ spelled.1 in
-    let shorter = fault_accepted (ltb (length s) (file_length (version_in s) 0)) short_file_refused _ versions.1 in
-    let many = fault_accepted (ltb greatest_curve_count (curve_count s)) curve_count_refused _ shorter.1 in
-    let longer = fault_accepted (not (eqb (length s) (file_length (version_in s) (curve_count s)))) total_refused _ many.1 in
+    let short = refuse_accepted (ltb (length s) (file_length first_version 0)) ShortFile _ e in
+    let spelled = refuse_accepted (differs s 0 || differs s 1 || differs s 2) WrongLetters _ short.1 in
+    let versions = refuse_accepted (outside first_version second_version (version_in s)) WrongVersion _ spelled.1 in
+    let shorter = refuse_accepted (ltb (length s) (file_length (version_in s) 0)) ShortFile _ versions.1 in
+    let many = refuse_accepted (ltb greatest_curve_count (curve_count s)) TooManyCurves _ shorter.1 in
+    let longer = refuse_accepted (not (eqb (length s) (file_length (version_in s) (curve_count s)))) WrongTotal _ many.1 in
     let which = inside first_version second_version (version_in s) versions.0 in
     let third = or_no (differs s 0 || differs s 1) (differs s 2) spelled.0 in
     search (or_no (differs s 0) (differs s 1) third.0, no_difference, nltb→le)
 
--- what reading the road in a file requires of it
-pub accepted_count : (s : List ℕ) → header_verdict s ≡ Accepted → curve_count s ≤ greatest_curve_count
-accepted_count s e = (accepted_header s e).count
-
-pub accepted_total : (s : List ℕ) → header_verdict s ≡ Accepted → length s ≡ file_length (version_in s) (curve_count s)
-accepted_total s e = (accepted_header s e).total
-
 -- ---- the file: its header, and the road in it
 pub record SoundFile (most : ℕ) (s : List ℕ) : Type 0 where
   pub header : SoundHeader s
-  pub road : verdict_up_to most (road_in s) ≡ Accepted
+  pub road : verdict_up_to most (road_in s) ≡ accepted
 
-pub accepted_file : {most : ℕ} (s : List ℕ) → read_verdict_up_to most s ≡ Accepted → SoundFile most s
+pub accepted_file : {most : ℕ} (s : List ℕ) → read_verdict_up_to most s ≡ accepted → SoundFile most s
 unfolding read_verdict_up_to
 accepted_file s e =
-    let both = first_fault_accepted (header_verdict s) _ e in
+    let both = unless_accepted (header_verdict s) _ e in
     record { header = accepted_header s both.0; road = both.1 }
 
-pub sound_file : {most : ℕ} (s : List ℕ) → SoundFile most s → read_verdict_up_to most s ≡ Accepted
+pub sound_file : {most : ℕ} (s : List ℕ) → SoundFile most s → read_verdict_up_to most s ≡ accepted
 unfolding read_verdict_up_to header_verdict
 sound_file s f =
     let h = f.header in
@@ -104,18 +94,5 @@ module _ (most : ℕ) (s : List ℕ) (r : ReadRoad) (e : r ≡ read_up_to most s
   unfolding read_up_to
   verdict_read = ap (λ (x : ReadRoad). x.verdict) e
 
-  pub road_read : read_verdict_up_to most s ≡ Accepted → r.road ≡ road_in s
+  pub road_read : read_verdict_up_to most s ≡ accepted → r.road ≡ road_in s
   road_read a = ap (λ (x : ReadRoad). x.road) (e ∙ read_by most s _ a)
-
--- every fault's number is a byte
-pub read_verdict_byte : (most : ℕ) (s : List ℕ) → ByteFault (read_verdict_up_to most s)
-unfolding read_verdict_up_to header_verdict
-read_verdict_byte most s =
-    first_fault_byte (header_verdict s) _
-    (fault_byte (ltb (length s) (file_length first_version 0)) _ _ (omega arith)
-    (fault_byte (differs s 0 || differs s 1 || differs s 2) _ _ (omega arith)
-    (fault_byte (outside first_version second_version (version_in s)) _ _ (omega arith)
-    (fault_byte (ltb (length s) (file_length (version_in s) 0)) _ _ (omega arith)
-    (fault_byte (ltb greatest_curve_count (curve_count s)) _ _ (omega arith)
-    (fault_byte (not (eqb (length s) (file_length (version_in s) (curve_count s)))) _ _ (omega arith) tt))))))
-    (verdict_byte most (road_in s))

@@ -1,10 +1,8 @@
 -- docs/RULES.md, "Road file": reading, and how much of a file is enough to read.
-use Rattle.std.specs.Prelude.{ℕ, ◌+◌, ◌≤◌, Bool, not, ◌||◌, List, ◌≡◌, ltb, eqb, length, take}
-use Rattle.terms.specs.Answers.{outside, fault, first_fault}
+use Rattle.std.specs.Prelude.{ℕ, ◌+◌, ◌≤◌, Bool, not, ◌||◌, List, ◌≡◌, ltb, eqb, length, take, Ok, Err}
+use Rattle.terms.specs.Answers.{outside, refuse, unless, Verdict, accepted}
 use Rattle.terms.specs.Limits.{first_version, second_version, greatest_curve_count, greatest_short_road, greatest_long_road}
-use Rattle.terms.specs.Refusals.{short_file_refused, letters_refused, version_refused, curve_count_refused, total_refused}
-use Rattle.terms.specs.declared.Verdict.{Verdict}
-use Rattle.terms.specs.declared.Verdict.TheVariants.{Accepted, Fault}
+use Rattle.terms.specs.declared.Refusal.TheVariants.{ShortFile, WrongLetters, WrongVersion, TooManyCurves, WrongTotal}
 use Rattle.road.specs.declared.Road.{Road}
 use Rattle.road.specs.Road.{verdict_up_to}
 use Rattle.file.specs.declared.ReadRoad.{ReadRoad}
@@ -18,17 +16,17 @@ differs s k = not (eqb (byte_at s k) (byte_at letters k))
 -- bytes than a header of its version has; 4 n over 32; 5 total length wrong
 unfoldable pub header_verdict : List ℕ → Verdict
 header_verdict s =
-    fault (ltb (length s) (file_length first_version 0)) short_file_refused
-    (fault (differs s 0 || differs s 1 || differs s 2) letters_refused
-    (fault (outside first_version second_version (version_in s)) version_refused
-    (fault (ltb (length s) (file_length (version_in s) 0)) short_file_refused
-    (fault (ltb greatest_curve_count (curve_count s)) curve_count_refused
-    (fault (not (eqb (length s) (file_length (version_in s) (curve_count s)))) total_refused
-    Accepted)))))
+    refuse (ltb (length s) (file_length first_version 0)) ShortFile
+    (refuse (differs s 0 || differs s 1 || differs s 2) WrongLetters
+    (refuse (outside first_version second_version (version_in s)) WrongVersion
+    (refuse (ltb (length s) (file_length (version_in s) 0)) ShortFile
+    (refuse (ltb greatest_curve_count (curve_count s)) TooManyCurves
+    (refuse (not (eqb (length s) (file_length (version_in s) (curve_count s)))) WrongTotal
+    accepted)))))
 
 -- reading, where no road over `most` metres is taken: 1 to 5, then the refusals of the road
 unfoldable pub read_verdict_up_to : ℕ → List ℕ → Verdict
-read_verdict_up_to most s = first_fault (header_verdict s) (verdict_up_to most (road_in s))
+read_verdict_up_to most s = unless (header_verdict s) (verdict_up_to most (road_in s))
 
 -- whether a file is accepted
 abbrev pub read_verdict : List ℕ → Verdict
@@ -40,8 +38,8 @@ short_read_verdict s = read_verdict_up_to greatest_short_road s
 
 -- the road where it is accepted, else zeros
 abbrev pub road_or_none : Verdict → Road → Road
-road_or_none Accepted r = r
-road_or_none (Fault k) r = no_road
+road_or_none (Ok _) r = r
+road_or_none (Err k) r = no_road
 
 -- the verdict and beside it the file's road, all zero where it is refused
 unfoldable pub read_up_to : ℕ → List ℕ → ReadRoad

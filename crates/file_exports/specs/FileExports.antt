@@ -1,9 +1,7 @@
 -- What the exported functions over a road file answer and leave in a lent list: as the operation on the file's road does,
 -- unless the file is refused.
-use Rattle.std.specs.Prelude.{ℕ, Bool, List, ℤ, nat_abs}
-use Rattle.terms.specs.Answers.{unless, kept_unless}
-use Rattle.terms.specs.declared.Answer.{Answer}
-use Rattle.terms.specs.declared.Answer.TheVariants.{Number}
+use Rattle.std.specs.Prelude.{ℕ, Bool, List, ℤ, nat_abs, Ok}
+use Rattle.terms.specs.Answers.{unless, kept_unless, Answer}
 use Rattle.road_distances.specs.RoadDistances.{road_grade}
 use Rattle.heights.specs.Heights.{heights_answer, heights_list}
 use Rattle.file.specs.File.{road_in}
@@ -27,4 +25,4 @@ file_heights_list file list = kept_unless (read_verdict file) (heights_list (roa
 -- a file read and its road's steepest downgrade in a direction: the grade that the road is marked with, without its sign. That grade is
 -- never positive, and towards falling stations never negative
 unfoldable pub file_downgrade : List ℕ → Bool → Answer
-file_downgrade file back = unless (read_verdict file) (Number (nat_abs (road_grade (road_in file) back)))
+file_downgrade file back = unless (read_verdict file) (Ok (nat_abs (road_grade (road_in file) back)))

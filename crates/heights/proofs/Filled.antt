@@ -6,8 +6,8 @@ use mathlib.Core.Path.{◌≡◌, ◌∙◌}
 use lib.IntN.{ℤ, pos}
 use lib.ListN.{length, take, length-replicate}
 use Rattle.whole.specs.Fill.{filled}
-use Rattle.terms.specs.declared.Answer.TheVariants.{Number}
-use Rattle.terms.specs.declared.Verdict.TheVariants.{Accepted}
+use Rattle.std.specs.Prelude.{Ok}
+use Rattle.terms.specs.Answers.{accepted}
 use Rattle.terms.proofs.Laws.{written-length, room_number, ends_front}
 use Rattle.road.specs.declared.Road.{Road}
 use Rattle.road.specs.Road.{road_verdict}
@@ -22,8 +22,8 @@ pub own_length : (r : Road) → length (own_heights r) ≡ r.length + 1
 unfolding own_heights
 own_length r = heights-length r _ ∙ length-replicate (r.length + 1) (pos 0)
 
-module _ (r : Road) (list : List ℤ) (accepted : road_verdict r ≡ Accepted) (room : r.length + 1 ≤ length list) where
-  pub heights_number : heights_answer r list ≡ Number (r.length + 1)
+module _ (r : Road) (list : List ℤ) (accepted : road_verdict r ≡ accepted) (room : r.length + 1 ≤ length list) where
+  pub heights_number : heights_answer r list ≡ Ok (r.length + 1)
   unfolding heights_answer
   heights_number = room_number _ _ list accepted room
 

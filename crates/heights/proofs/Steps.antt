@@ -12,15 +12,12 @@ use mir.Val.{SFits, to_z, of_z}
 use Rattle.std.proofs.lemmas.Int.{ints}
 use Rattle.whole.specs.Floor.{floor_div, floor}
 use Rattle.whole.proofs.Floor.{floor_r}
-use Rattle.whole.proofs.Range.{Below, Reads, literal_r, count_r, known_r, mul_r, read_r, fits_by, same_by, sizes, add_size, neg_size, range_size}
-use Rattle.whole.proofs.Range.{reads as reading}
+use Rattle.whole.proofs.Range.{Below, Reads, literal_r, count_r, known_r, mul_r, read_r, fits_by, same_by, sizes, add_size, neg_size, range_size, reads as reading}
 use Rattle.terms.specs.Limits.{greatest_grade, greatest_curve, greatest_long_road}
 use Rattle.road.specs.declared.Curve.{Curve}
-use Rattle.road.specs.Road.{end}
-use Rattle.heights.specs.declared.Walk.{Walk}
-use Rattle.heights.specs.Profile.{on_curve}
-use Rattle.heights.specs.Walk.{CurveHere, over}
-use Rattle.heights.proofs.Along.{height_bound, grade_out_size, walk_same, turn_size, bend_size, curve_floor}
+use Rattle.road.specs.Order.{CurveInRange}
+use Rattle.heights.specs.Profile.{on_curve, end_height}
+use Rattle.heights.proofs.Along.{height_bound, grade_out_size, turn_size, bend_size, curve_floor}
 
 -- ---- what is read from its bits: a grade, a height and a number of metres
 abbrev read16 : ℤ → ℤ
@@ -58,6 +55,9 @@ metres_reads w d h = count_r w d greatest_curve h
 module _ (z g : ℤ) (d : ℕ) (hz : nat_abs z ≤ height_bound) (hg : nat_abs g ≤ greatest_grade) (hd : d ≤ greatest_long_road) where
   abbrev climb : ℤ
   climb = read32 (read32 (read16 g) *ℤ to_z w32 d)
+
+  pub climb_fits : SFits w32 (read32 (read16 g) *ℤ to_z w32 d)
+  climb_fits = let r = (grade_reads g hg).size in let m = (count_r w32 d greatest_long_road hd).size in fits_by (search sizes depth 16) tt
 
   pub road_fits : SFits w32 (read32 z +ℤ climb)
   road_fits =
@@ -147,40 +147,25 @@ rise_fits gin gout L short =
     let r = (any_grade gin).size in let s = (any_grade gout).size in let m = (metres_reads w32 (L / 2) (omega arith)).size in
     fits_by (search sizes depth 16) tt
 
-module _ (z gin gout : ℤ) (L : ℕ) (hz : nat_abs z ≤ height_bound) (short : L ≤ greatest_curve) where
+module _ (z g : ℤ) (c : Curve) (hz : nat_abs z ≤ height_bound) (h : CurveInRange c) where
   abbrev rise : ℤ
-  rise = read32 (read32 (read32 (read16 gin) +ℤ read32 (read16 gout)) *ℤ to_z w32 (L / 2))
+  rise = read32 (read32 (read32 (read16 g) +ℤ read32 (read16 c.grade_out)) *ℤ to_z w32 (c.length / 2))
 
   pub end_fits : SFits w32 (read32 z +ℤ rise)
   end_fits =
-      let r = (any_grade gin).size in let s = (any_grade gout).size in
-      let h = (height_reads z hz).size in let m = (metres_reads w32 (L / 2) (omega arith)).size in
+      let r = (any_grade g).size in let s = (any_grade c.grade_out).size in
+      let t = (height_reads z hz).size in let m = (metres_reads w32 (c.length / 2) (omega (arith, h.short))).size in
       fits_by (search sizes depth 16) tt
 
-  end_is : nat_abs gin ≤ greatest_grade → nat_abs gout ≤ greatest_grade → read32 (read32 z +ℤ rise) ≡ z +ℤ (gin +ℤ gout) *ℤ pos (L / 2)
-  end_is hin hout =
-      let r = grade_reads gin hin in let s = grade_reads gout hout in
-      let h = height_reads z hz in let m = metres_reads w32 (L / 2) (omega arith) in
+  pub end_is : nat_abs g ≤ greatest_grade → read32 (read32 z +ℤ rise) ≡ end_height z g c
+  end_is hg =
+      let r = grade_reads g hg in let s = grade_reads c.grade_out (grade_out_size h) in
+      let t = height_reads z hz in let m = metres_reads w32 (c.length / 2) (omega (arith, h.short)) in
       same_by (search reading depth 20) tt
 
--- the walk there
-pub over_is : (at : Walk) (c : Curve) (x : ℕ) → CurveHere at c → x ≡ end c →
-    ◌≡◌ {A = Walk}
-    record {
-      station = x;
-      height = read32 (read32 at.height +ℤ read32 (read32 (read32 (read16 at.grade) +ℤ read32 (read16 c.grade_out)) *ℤ to_z w32 (c.length / 2)));
-      grade = read16 c.grade_out;
-    }
-    (over at c)
-over_is at c x h e =
-    let hout = grade_out_size h.curve in
-    walk_same e
-    (end_is at.height at.grade c.grade_out c.length (omega (arith, h.walk.height_size, h.here, h.on_road)) h.curve.short h.walk.grade_size hout)
-    (same_by (grade_reads c.grade_out hout) tt)
-
--- ---- for `on_straight`, `on_curve` and `walk_over`
-pub ruleset straight_steps = (road_fits, road_is)
+-- ---- for `on_straight`, `on_curve` and `on_end`
+pub ruleset straight_steps = (climb_fits, road_fits, road_is)
 
 pub ruleset curve_steps = (once_fits, twice_fits, along_fits, straight_fits, sum_fits, height_fits, height_is)
 
-pub ruleset end_steps = (rise_fits, end_fits, over_is)
+pub ruleset end_steps = (rise_fits, end_fits, end_is)

@@ -1,7 +1,6 @@
 -- docs/RULES.md, "The road and its heights", Heights: the answer, and what the lent list holds at the end.
 use Rattle.std.specs.Prelude.{◌+◌, List, ℤ, pos, replicate}
-use Rattle.terms.specs.Answers.{unless, room_for, written}
-use Rattle.terms.specs.declared.Answer.{Answer}
+use Rattle.terms.specs.Answers.{unless, room_for, written, Answer}
 use Rattle.road.specs.declared.Road.{Road}
 use Rattle.road.specs.Road.{road_verdict}
 use Rattle.heights.specs.Profile.{stored_height}

@@ -8,7 +8,8 @@ ghost use Rattle.listing.specs.Listing.{listing, EnoughToList, HoldsListings};
 
 use std::io::{self, Read};
 
-// Reads until the bytes are full or the input ends, and answers how many were read. What does not fit is not needed.
+// Reads until the bytes are full or the input ends, and answers how many were read. What does not fit is not needed. Of std,
+// `read_exact` refuses a short input and `read_to_end` wants a `Vec`.
 fn read_file<R: Read>(input: &mut R, bytes: &mut [u8]) -> io::Result<usize>
     requires { EnoughToList (length bytes.old) }
     ensures { ReadsAtMost result bytes.new }
@@ -25,13 +26,13 @@ fn read_file<R: Read>(input: &mut R, bytes: &mut [u8]) -> io::Result<usize>
 }
 
 // Puts the listing of a file at the front of a text that holds any, and answers how many bytes it has.
-#[tactic(auto, using(listing::proofs::Whole::listing_whole))]
+#[tactic(auto, using(listing::proofs::Whole::whole_listing))]
 fn list(file: &[u8], text: &mut [u8]) -> usize
     requires { HoldsListings (length text.old) }
     ensures count { IsPrefixLen result text.new }
     ensures front { take result text.new ≡ listing file.now }
 {
-    terms::value_or_zero(listing::list_road_file(file, text)) as usize
+    listing::list_road_file(file, text).unwrap_or(0) as usize
 }
 
 #[tactic(auto, using(listing::proofs::Front::listing_front, listing::proofs::Longest::listing_at_most), unfolding(file::specs::File::station_bytes))]

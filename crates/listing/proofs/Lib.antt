@@ -1,7 +1,6 @@
 pub mod Aside
 pub mod Front
 pub mod Lent
-pub mod Lines
 pub mod Longest
 pub mod Put
 pub mod Whole

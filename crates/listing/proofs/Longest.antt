@@ -9,9 +9,10 @@ use native.Mathlib.Omega.{arith}
 use lib.Dec.{ltb}
 use lib.ListN.{length, get_or, replicate, length-append, length-replicate}
 use Rattle.whole.proofs.Table.{each_at}
+use Rattle.terms.specs.Refusals.{number}
 use Rattle.terms.specs.Limits.{greatest_short_road}
-use Rattle.terms.specs.declared.Verdict.{Verdict}
-use Rattle.terms.specs.declared.Verdict.TheVariants.{Accepted, Fault}
+use Rattle.terms.specs.Answers.{Verdict, accepted}
+use Rattle.std.specs.Prelude.{Ok, Err}
 use Rattle.terms.proofs.Laws.{written-length}
 use Rattle.distance.specs.declared.Distances.{Distances}
 use Rattle.road.specs.declared.Road.{Road}
@@ -27,6 +28,7 @@ use Rattle.road_marks.specs.RoadMarks.{road_mark, mark_road_answer, mark_road_li
 use Rattle.zones.specs.Zones.{zone_ends, zone_count}
 use Rattle.zones.proofs.Laws.{zones_at_most}
 use Rattle.listing.specs.Listing.{joined, digit, item, line, refused_word, first_line, zone_line, bit_letters, bit_lines, own_marks, road_text, text_of, listing, HoldsListings}
+use Rattle.listing.specs.Put.{most_zones, greatest_listing}
 
 -- ---- items
 digit_at_most : (p x : ℕ) → length (digit p x) ≤ 1
@@ -76,14 +78,6 @@ zone_at_most : (letter first last : ℕ) → length (zone_line letter first last
 zone_at_most letter first last = line_at_most (letter ∷ []) (first ∷ last ∷ []) 6 (λ k. item_at_most _)
 
 -- ---- the text of a road
--- at most one zone of a bit for two stations
-abbrev most_zones : ℕ
-most_zones = (greatest_short_road + 2) / 2
-
--- a first line of at most 22 bytes, and for each letter zones with a line of at most 14 bytes
-abbrev pub greatest_listing : ℕ
-greatest_listing = 22 + 14 * most_zones * length bit_letters
-
 bit_at_most : (marks : List ℕ) → length marks ≤ greatest_short_road + 1 → (b : ℕ) → length (bit_lines marks b) ≤ 14 * most_zones
 unfolding bit_lines
 bit_at_most marks h b =
@@ -97,7 +91,7 @@ own_marks-length r =
     written-length (road_mark r forward) (mark_road_answer greatest_short_road r (replicate (r.length + 1) 0)) (replicate (r.length + 1) 0)
     ∙ length-replicate {A = ℕ} (r.length + 1) 0
 
-road_at_most : (r : Road) → short_road_verdict r ≡ Accepted → length (road_text r) ≤ greatest_listing
+road_at_most : (r : Road) → short_road_verdict r ≡ accepted → length (road_text r) ≤ greatest_listing
 unfolding road_text
 road_at_most r accepted =
     let stations : length (own_marks r) ≤ greatest_short_road + 1 = omega (arith, own_marks-length r, (accepted_road r accepted).length_high) in
@@ -112,5 +106,5 @@ unfolding listing
 listing_at_most file = go (short_read_verdict file) refl
   where
     go : (v : Verdict) → short_read_verdict file ≡ v → length (text_of (read_up_to greatest_short_road file)) ≤ greatest_listing
-    go Accepted e = rw (read_by greatest_short_road file Accepted e) (road_at_most (road_in file) (accepted_file file e).road)
-    go (Fault k) e = rw (read_by greatest_short_road file (Fault k) e) (omega (arith, line_at_most refused_word (k ∷ []) 6 (λ _. item_at_most _)))
+    go (Ok _) e = rw (read_by greatest_short_road file accepted e) (road_at_most (road_in file) (accepted_file file e).road)
+    go (Err k) e = rw (read_by greatest_short_road file (Err k) e) (omega (arith, line_at_most refused_word (number k ∷ []) 6 (λ _. item_at_most _)))

@@ -1,10 +1,8 @@
 -- docs/RULES.md, "The lister": the text of a road file, in bytes.
-use Rattle.std.specs.Prelude.{ℕ, zero, suc, ◌+◌, ◌*◌, ◌/◌, ◌%◌, ◌≤◌, ◌≡◌, cond, List, [], ◌∷◌, ◌++◌, ltb, length, take, replicate, get_or}
-use Rattle.terms.specs.Answers.{room_for, written}
+use Rattle.std.specs.Prelude.{ℕ, zero, suc, ◌+◌, ◌*◌, ◌/◌, ◌%◌, ◌≤◌, ◌≡◌, cond, List, [], ◌∷◌, ◌++◌, ltb, length, take, replicate, get_or, Ok, Err}
+use Rattle.terms.specs.Answers.{room_for, written, Answer, Verdict}
+use Rattle.terms.specs.Refusals.{number}
 use Rattle.terms.specs.Limits.{greatest_short_road}
-use Rattle.terms.specs.declared.Answer.{Answer}
-use Rattle.terms.specs.declared.Verdict.{Verdict}
-use Rattle.terms.specs.declared.Verdict.TheVariants.{Accepted, Fault}
 use Rattle.distance.specs.declared.Distances.{Distances}
 use Rattle.road.specs.declared.Road.{Road}
 use Rattle.directions.specs.Directions.{forward}
@@ -84,8 +82,8 @@ road_text r = first_line r.version r.speed (road_distances r forward) ++ zones_t
 
 -- by reading's verdict: the road's text, or the line of the refusal
 abbrev pub text_for : Verdict → Road → List ℕ
-text_for Accepted r = road_text r
-text_for (Fault k) r = refused_line k
+text_for (Ok _) r = road_text r
+text_for (Err refusal) r = refused_line (number refusal)
 
 -- the text of what was read
 abbrev pub text_of : ReadRoad → List ℕ

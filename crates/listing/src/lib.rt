@@ -1,173 +1,200 @@
 // docs/RULES.md, "The lister": the text of a road file.
 #![tactic(auto)]
 
-ghost use Rattle.std.specs.Prelude.{◌≡◌, [], ◌∷◌, ◌+◌, ◌*◌, ◌≤◌, ◌<◌, length};
+ghost use Rattle.std.specs.Prelude.{◌≡◌, [], ◌∷◌, ◌+◌, ◌≤◌, ◌<◌, length, get_or};
 ghost use Rattle.terms.specs.Limits.{greatest_short_road};
-ghost use Rattle.terms.specs.declared.Verdict.TheVariants.{Accepted};
+ghost use Rattle.terms.specs.Answers.{accepted};
 ghost use Rattle.road.specs.Road.{short_road_verdict};
-ghost use Rattle.listing.specs.Listing.{digit, item, line, zone_lines, bit_letters, bit_lines, zones_text, road_text, listing, list_answer, list_buffer};
-ghost use Rattle.listing.specs.Put.{Put};
+ghost use Rattle.listing.specs.Listing.{digit, item, line, bit_letters, bit_lines, zones_text, road_text, listing, list_answer, list_buffer};
+ghost use Rattle.listing.specs.Put.{put, pair_lines};
 
 use road::Road;
-use terms::{Answer, Verdict};
+use std::marker::Model;
+use terms::{Answer, Refusal};
 
 // One space parts the items of a line, and every line ends with a line feed.
-const SPACE: u8 = 32;
+const SPACE: u8 = b' ';
 
-const LINE_FEED: u8 = 10;
+const LINE_FEED: u8 = b'\n';
 
-// How many bits have a letter: S D R s d.
-const LETTERS: u32 = 5;
+// The letters of bits 0 to 4.
+const LETTERS: &[u8; 5] = b"SDRsd";
 
 // Zones of a bit: between two of them there is a station without it.
 const MOST_ZONES: usize = (terms::SHORT_STATIONS + 1) / 2;
 
 // Bytes that hold any listing: a first line has at most 22, and the line of a zone at most 14.
-pub const GREATEST_LISTING: usize = 22 + 14 * MOST_ZONES * LETTERS as usize;
+pub const GREATEST_LISTING: usize = 22 + 14 * MOST_ZONES * LETTERS.len();
 
-// Writes one byte at the place `at` of the text, where there is one. The answer, here and below, is the place behind what is
-// written; what has no room is left out.
-#[tactic(auto, using(crate::proofs::Put::set_beyond), unfolding(whole::specs::Placed::placed))]
-fn write_byte(byte: u8, text: &mut [u8], at: usize) -> usize
-    ensures { Put (byte ∷ []) at result text.old text.new }
-{
-    if at < text.len() {
-        text[at] = byte;
-        return at + 1;
+// The text that is written so far, without heap: an array that holds any listing. What would find no room in it is left out.
+#[derive(Drop)]
+struct Text {
+    bytes: [u8; GREATEST_LISTING],
+    length: usize,
+}
+
+impl Model for Text {
+    ghost use Rattle.std.specs.Prelude.{List, ℕ, ◌≤◌, take};
+    ghost use Rattle.listing.specs.Put.{greatest_listing};
+
+    ghost Value = { List ℕ };
+
+    ghost view = { λ t. take t.length t.bytes };
+
+    ghost invariant = { λ t. t.length ≤ greatest_listing };
+}
+
+impl Text {
+    fn new() -> Text
+        ensures { result ≡ [] }
+    {
+        Text {
+            bytes: [0; GREATEST_LISTING],
+            length: 0,
+        }
     }
-    at
-}
 
-// Writes a word, from the place `at` on.
-#[tactic(auto, using(crate::proofs::Put::put_word), unfolding(whole::specs::Placed::placed))]
-fn write_word(word: &[u8], text: &mut [u8], at: usize) -> usize
-    ensures { Put word.now at result text.old text.new }
-{
-    let mut next = at;
-    for i in 0..word.len() {
-        next = write_byte(word[i], text, next);
+    fn as_slice(&self) -> &[u8]
+        ensures { result.now ≡ self.now }
+    {
+        &self.bytes[..self.length]
     }
-    next
-}
 
-// Writes the digit of the place that counts `p`, or nothing where `x` is below it.
-#[tactic(auto, unfolding(whole::specs::Placed::placed, crate::specs::Listing::digit))]
-fn write_digit(p: u32, x: u32, text: &mut [u8], at: usize) -> usize
-    requires { 0 < p }
-    ensures { Put (digit p x) at result text.old text.new }
-{
-    if x < p {
-        return at;
+    // Writes one byte.
+    #[tactic(auto, using(crate::proofs::Put::put_byte, crate::proofs::Put::put_full))]
+    fn byte(&mut self, byte: u8)
+        ensures { self.new ≡ put self.old (byte ∷ []) }
+    {
+        if self.length < GREATEST_LISTING {
+            self.bytes[self.length] = byte;
+            self.length += 1;
+        }
     }
-    write_byte(48 + (x / p % 10) as u8, text, at)
-}
 
-// Writes a space and a number below 100,000.
-fn write_item(x: u32, text: &mut [u8], at: usize) -> usize
-    ensures { Put (item x) at result text.old text.new }
-{
-    let a = write_byte(SPACE, text, at);
-    let b = write_digit(10000, x, text, a);
-    let c = write_digit(1000, x, text, b);
-    let d = write_digit(100, x, text, c);
-    let e = write_digit(10, x, text, d);
-    write_byte(48 + (x % 10) as u8, text, e)
-}
-
-// Writes a line of a word and numbers.
-#[tactic(auto, unfolding(whole::specs::Placed::placed, crate::specs::Listing::joined))]
-fn write_line(word: &[u8], numbers: &[u32], text: &mut [u8], at: usize) -> usize
-    ensures { Put (line word.now numbers.now) at result text.old text.new }
-{
-    let mut next = write_word(word, text, at);
-    for k in 0..numbers.len() {
-        next = write_item(numbers[k], text, next);
+    // Writes a word.
+    #[tactic(auto, using(crate::proofs::Put::put_none, crate::proofs::Put::put_more))]
+    fn word(&mut self, word: &[u8])
+        ensures { self.new ≡ put self.old word.now }
+    {
+        for &byte in word {
+            self.byte(byte);
+        }
     }
-    write_byte(LINE_FEED, text, next)
-}
 
-// Writes the lines of the first `count` zones of a letter, whose first and last stations stand in `ends`.
-#[tactic(auto, unfolding(whole::specs::Placed::placed, crate::specs::Listing::joined))]
-fn write_zone_lines(letter: u8, ends: &[u32], count: usize, text: &mut [u8], at: usize) -> usize
-    requires { 2 * count ≤ length ends.now }
-    ensures { Put (zone_lines letter ends.now count) at result text.old text.new }
-{
-    let word = [letter];
-    let mut next = at;
-    for k in 0..count {
-        let numbers = [ends[2 * k], ends[2 * k + 1]];
-        next = write_line(&word, &numbers, text, next);
+    // Writes the digit of the place that counts `p`, or nothing where `x` is below it.
+    #[tactic(auto, using(crate::proofs::Put::put_none), unfolding(crate::specs::Listing::digit))]
+    fn digit(&mut self, p: u32, x: u32)
+        requires { 0 < p }
+        ensures { self.new ≡ put self.old (digit p x) }
+    {
+        if p <= x {
+            self.byte(b'0' + (x / p % 10) as u8);
+        }
     }
-    next
-}
 
-// Writes the zones of a bit of the marks.
-fn write_bit_lines(marks: &[u8], bit: u32, text: &mut [u8], at: usize) -> usize
-    requires { (bit < length bit_letters) × (0 < length marks.now) × (length marks.now ≤ greatest_short_road + 1) }
-    ensures { Put (bit_lines marks.now bit) at result text.old text.new }
-{
-    let mut ends = [0u32; 2 * MOST_ZONES];
-    let letters = b"SDRsd";
-    let letter = letters[bit as usize];
-    let count = terms::value_or_zero(zones::zones(marks, bit, &mut ends));
-    write_zone_lines(letter, &ends, count as usize, text, at)
-}
-
-// Writes the zones of all letters.
-#[tactic(auto, unfolding(whole::specs::Placed::placed, crate::specs::Listing::joined))]
-fn write_zones_text(marks: &[u8], text: &mut [u8], at: usize) -> usize
-    requires { (0 < length marks.now) × (length marks.now ≤ greatest_short_road + 1) }
-    ensures { Put (zones_text marks.now) at result text.old text.new }
-{
-    let mut next = at;
-    for bit in 0..LETTERS {
-        next = write_bit_lines(marks, bit, text, next);
+    // Writes a space and a number below 100,000. By its five places, as the definition has it for every number: `{}` has more.
+    #[tactic(auto, using(crate::proofs::Put::put_join), unfolding(crate::specs::Listing::item))]
+    fn item(&mut self, x: u32)
+        ensures { self.new ≡ put self.old (item x) }
+    {
+        self.byte(SPACE);
+        self.digit(10000, x);
+        self.digit(1000, x);
+        self.digit(100, x);
+        self.digit(10, x);
+        self.byte(b'0' + (x % 10) as u8);
     }
-    next
-}
 
-// Writes the text of a road that is listed, from the place 0 on.
-#[tactic(auto, using(road::proofs::Accepted::accepted_road))]
-fn write_road(road: Road, text: &mut [u8]) -> usize
-    requires { short_road_verdict road ≡ Accepted }
-    ensures { Put (road_text road) 0 result text.old text.new }
-{
-    let speed = road.speed as u32;
-    let needed = road_distances::road_distances(road, directions::FORWARD);
-    let numbers = [road.version, speed, needed.stopping, needed.decision];
-    let next = write_line(b"VCP", &numbers, text, 0);
-    let mut marks = [0u8; terms::SHORT_STATIONS];
-    road_marks::mark_short_road(road, &mut marks);
-    let stations = road.length as usize + 1;
-    write_zones_text(&marks[..stations], text, next)
-}
-
-// Writes the listing of a road file, from the place 0 on.
-#[tactic(auto, unfolding(crate::specs::Listing::listing))]
-fn write_listing(file: &[u8], text: &mut [u8]) -> usize
-    ensures { Put (listing file.now) 0 result text.old text.new }
-{
-    let read = file::read(file, terms::GREATEST_SHORT_ROAD);
-    let verdict = read.verdict;
-    if let Verdict::Fault(number) = verdict {
-        let numbers = [number as u32];
-        return write_line(b"refused", &numbers, text, 0);
+    // Writes a line of a word and numbers.
+    #[tactic(auto, using(crate::proofs::Put::put_none, crate::proofs::Put::put_join), unfolding(crate::specs::Listing::line, crate::specs::Listing::joined))]
+    fn line(&mut self, word: &[u8], numbers: &[u32])
+        ensures { self.new ≡ put self.old (line word.now numbers.now) }
+    {
+        self.word(word);
+        for &number in numbers {
+            self.item(number);
+        }
+        self.byte(LINE_FEED);
     }
-    write_road(read.road, text)
+
+    // Writes the lines of zones of a letter, from the first and the last station of each.
+    #[tactic(auto, using(crate::proofs::Put::put_none, crate::proofs::Put::put_join), unfolding(crate::specs::Listing::joined))]
+    fn zone_lines(&mut self, letter: u8, zones: &[[u32; 2]])
+        ensures { self.new ≡ put self.old (pair_lines letter zones.now) }
+    {
+        for zone in zones {
+            self.line(&[letter], zone);
+        }
+    }
+
+    // Writes the zones of a bit of the marks, which has this letter.
+    #[tactic(auto, using(crate::proofs::Lent::bit_zones))]
+    fn bit_lines(&mut self, letter: u8, marks: &[u8], bit: u32)
+        requires { (bit < length bit_letters) × (letter ≡ get_or bit_letters bit 0) × (0 < length marks.now) × (length marks.now ≤ greatest_short_road + 1) }
+        ensures { self.new ≡ put self.old (bit_lines marks.now bit) }
+    {
+        let mut ends = [0; 2 * MOST_ZONES];
+        let count = zones::zones(marks, bit, &mut ends).unwrap_or(0) as usize;
+        let (pairs, _) = ends[..2 * count].as_chunks();
+        self.zone_lines(letter, pairs);
+    }
+
+    // Writes the zones of all letters.
+    #[tactic(auto, using(crate::proofs::Put::put_none, crate::proofs::Put::put_join), unfolding(crate::specs::Listing::joined))]
+    fn zones_text(&mut self, marks: &[u8])
+        requires { (0 < length marks.now) × (length marks.now ≤ greatest_short_road + 1) }
+        ensures { self.new ≡ put self.old (zones_text marks.now) }
+    {
+        for (bit, &letter) in LETTERS.iter().enumerate() {
+            self.bit_lines(letter, marks, bit as u32);
+        }
+    }
+
+    // Writes the text of a road that is listed.
+    #[tactic(auto, using(crate::proofs::Lent::road_marks), unfolding(crate::specs::Listing::road_text))]
+    fn road(&mut self, road: Road)
+        requires { short_road_verdict road ≡ accepted }
+        ensures { self.new ≡ put self.old (road_text road) }
+    {
+        let speed = u32::from(road.speed);
+        let needed = road_distances::road_distances(road, directions::FORWARD);
+        self.line(
+            b"VCP",
+            &[road.version, speed, needed.stopping, needed.decision],
+        );
+        let mut marks = [0; terms::SHORT_STATIONS];
+        let _ = road_marks::mark_short_road(road, &mut marks);
+        let stations = road.length as usize + 1;
+        self.zones_text(&marks[..stations]);
+    }
+
+    // Writes the listing of a road file.
+    #[tactic(auto, using(crate::proofs::Aside::accepted_read), unfolding(crate::specs::Listing::listing))]
+    fn file(&mut self, file: &[u8])
+        ensures { self.new ≡ put self.old (listing file.now) }
+    {
+        let read = file::read(file, terms::GREATEST_SHORT_ROAD);
+        match read.verdict {
+            Ok(()) => self.road(read.road),
+            Err(refusal) => self.line(b"refused", &[u32::from(refusal.number())]),
+        }
+    }
 }
 
 // The listing of a road file, into `text` from byte 0 on. The answer is how many bytes are written. It is written aside first,
 // since its length decides whether it is refused.
-#[tactic(auto, unfolding(crate::specs::Listing::list_answer, crate::specs::Listing::list_buffer))]
+#[tactic(auto, using(crate::proofs::Aside::aside, crate::proofs::Longest::listing_at_most, crate::proofs::Aside::listed_buffer), unfolding(crate::specs::Listing::list_answer, crate::specs::Listing::list_buffer))]
 pub fn list_road_file(file: &[u8], text: &mut [u8]) -> Answer
     ensures answer { result ≡ list_answer file.now text.old }
     ensures list { text.new ≡ list_buffer file.now text.old }
 {
-    let mut whole = [0u8; GREATEST_LISTING];
-    let length = write_listing(file, &mut whole);
+    let mut listing = Text::new();
+    listing.file(file);
+    let bytes = listing.as_slice();
+    let length = bytes.len();
     if text.len() < length {
-        return Answer::Refused(terms::ROOM_REFUSED);
+        return Err(Refusal::NoRoom);
     }
-    write_word(&whole[..length], text, 0);
-    Answer::Number(length as u32)
+    text[..length].copy_from_slice(bytes);
+    Ok(length as u32)
 }

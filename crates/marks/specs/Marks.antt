@@ -1,8 +1,7 @@
 -- docs/RULES.md, "Marks and zones": a station's mark, and the marks of heights.
 use Rattle.std.specs.Prelude.{ℕ, ◌+◌, ◌-◌, ◌^◌, Bool, not, cond, ◌&&◌, List, ltb, leb, ℤ, length}
-use Rattle.terms.specs.Answers.{unless, room_for, written}
+use Rattle.terms.specs.Answers.{unless, room_for, written, Answer}
 use Rattle.terms.specs.Limits.{eye_height, object_height}
-use Rattle.terms.specs.declared.Answer.{Answer}
 use Rattle.verdicts.specs.Verdicts.{marks_verdict}
 use Rattle.distance.specs.declared.Distances.{Distances}
 use Rattle.distance.specs.Distance.{distances_for}

@@ -1,8 +1,7 @@
 -- docs/RULES.md, "The lane coming back": the mirror of a road.
 use Rattle.std.specs.Prelude.{ℕ, ◌-◌, List, [], ◌∷◌, ◌++◌, ℤ, neg_ℤ, replicate}
-use Rattle.terms.specs.Answers.{first_fault}
+use Rattle.terms.specs.Answers.{unless, Verdict}
 use Rattle.terms.specs.Limits.{greatest_curve_count}
-use Rattle.terms.specs.declared.Verdict.{Verdict}
 use Rattle.road.specs.declared.Curve.{Curve}
 use Rattle.road.specs.declared.Road.{Road}
 use Rattle.road.specs.Road.{curves_of, no_curve, road_verdict}
@@ -40,7 +39,7 @@ mirror r = record {
 
 -- refused as the road is, then as its mirror is
 unfoldable pub mirror_verdict : Road → Verdict
-mirror_verdict r = first_fault (road_verdict r) (road_verdict (mirror r))
+mirror_verdict r = unless (road_verdict r) (road_verdict (mirror r))
 
 -- the verdict and beside it the mirror, all zero where it is refused
 unfoldable pub mirror_of : Road → Mirrored

@@ -1,87 +1,83 @@
 // docs/RULES.md, "The lane coming back": the mirror of a road, which is the road as it is driven towards falling stations.
 #![tactic(auto)]
 
-ghost use Rattle.std.specs.Prelude.{◌≡◌};
+ghost use Rattle.std.specs.Prelude.{◌≡◌, Err, MatchResult};
+ghost use Rattle.terms.specs.Answers.{accepted};
 ghost use Rattle.road.specs.Road.{road_verdict};
 ghost use Rattle.heights.specs.Profile.{stored_height};
-ghost use Rattle.mirror.specs.Mirror.{mirror, mirror_of};
+ghost use Rattle.mirror.specs.Mirror.{mirror, mirror_verdict, mirror_of};
 
 use road::{Curve, Road};
-use terms::Verdict;
+use terms::{Refusal, Verdict};
 
-// What mirroring answers, and beside it the mirror: all zero where it is refused.
-#[derive(Clone, Copy)]
+// What mirroring answers, and beside it the mirror, as document 01 has it of roads: all zero where it is refused.
+#[derive(Clone, Copy, Debug, PartialEq, Eq)]
 pub struct Mirrored {
     pub verdict: Verdict,
     pub road: Road,
 }
 
-// The height at the end of an accepted road.
+// The height at the end of an accepted road, whose heights are not refused. An accepted road has no type of its own: `heights` takes any road.
 #[tactic(auto, using(heights::proofs::Walked::accepted_road_length))]
 fn end_height(road: Road) -> i32
-    requires { road_verdict road ≡ Verdict.Accepted }
+    requires { road_verdict road ≡ accepted }
     ensures { result ≡ stored_height road road.length }
 {
     let mut list = [0i32; terms::LONG_STATIONS];
-    heights::heights(road, &mut list);
+    let _ = heights::heights(road, &mut list);
     list[road.length as usize]
 }
 
-// The mirror of an accepted road that ends at this height. `grade` is the grade in of curve `k`: with its sign changed it is that curve's
-// grade out in the mirror, and behind the last curve the mirror's first grade.
-#[tactic(auto, using(crate::proofs::Turning::count_in, crate::proofs::Turning::pvi_on_road))]
-fn mirror_from(road: Road, start: i32) -> Road
-    requires { (road_verdict road ≡ Verdict.Accepted) × (start ≡ stored_height road road.length) }
+// The mirror of an accepted road. `grade` is the grade in of curve `k`: with its sign changed it is that curve's grade out in the mirror, and
+// behind the last curve the mirror's first grade.
+#[tactic(auto, using(crate::proofs::Turning::few, crate::proofs::Turning::pvi_on_road))]
+fn mirror_from(road: Road) -> Road
+    requires { road_verdict road ≡ accepted }
     ensures { result ≡ mirror road }
 {
-    let count = road.count as usize;
+    let in_use = road.curves_in_use();
     let mut curves = [file::NO_CURVE; road::CURVE_PLACES];
     let mut grade = road.first_grade;
-    let mut k: usize = 0;
-    while k < count {
-        let c = road.curves[k];
-        curves[count - 1 - k] = Curve {
+    for (k, &c) in in_use.iter().enumerate() {
+        curves[in_use.len() - 1 - k] = Curve {
             pvi: road.length - c.pvi,
             length: c.length,
             grade_out: -grade,
         };
         grade = c.grade_out;
-        k += 1;
     }
     Road {
-        version: road.version,
-        speed: road.speed,
-        purpose: road.purpose,
-        length: road.length,
-        start_height: start,
+        start_height: end_height(road),
         first_grade: -grade,
-        count: road.count,
         curves,
+        ..road
     }
 }
 
 // The mirror of a road. Refused as the road is, then as its mirror is.
-#[tactic(auto, unfolding(crate::specs::Mirror::mirror_of, crate::specs::Mirror::mirror_verdict, file::specs::File::no_road))]
+#[tactic(auto, unfolding(crate::specs::Mirror::mirror_verdict))]
+fn accepted_mirror(road: Road) -> Result<Road, Refusal>
+    ensures { MatchResult result (λ r. (r ≡ mirror road) × (mirror_verdict road ≡ accepted)) (λ refusal. mirror_verdict road ≡ Err refusal) }
+{
+    road.verdict(terms::GREATEST_LONG_ROAD)?;
+    let mirror = mirror_from(road);
+    mirror.verdict(terms::GREATEST_LONG_ROAD)?;
+    Ok(mirror)
+}
+
+// The verdict of mirroring a road, and beside it the mirror.
+#[tactic(auto, unfolding(crate::specs::Mirror::mirror_of, file::specs::File::no_road))]
 pub fn mirror(road: Road) -> Mirrored
     ensures { result ≡ mirror_of road }
 {
-    let verdict = road::verdict(road, terms::GREATEST_LONG_ROAD);
-    if let Verdict::Fault(_) = verdict {
-        return Mirrored {
-            verdict,
+    match accepted_mirror(road) {
+        Ok(mirror) => Mirrored {
+            verdict: Ok(()),
+            road: mirror,
+        },
+        Err(refusal) => Mirrored {
+            verdict: Err(refusal),
             road: file::NO_ROAD,
-        };
-    }
-    let mirror = mirror_from(road, end_height(road));
-    let verdict = road::verdict(mirror, terms::GREATEST_LONG_ROAD);
-    if let Verdict::Fault(_) = verdict {
-        return Mirrored {
-            verdict,
-            road: file::NO_ROAD,
-        };
-    }
-    Mirrored {
-        verdict,
-        road: mirror,
+        },
     }
 }

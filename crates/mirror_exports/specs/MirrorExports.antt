@@ -1,8 +1,6 @@
 -- What the exported function that mirrors a file's road answers and leaves in the lent list.
 use Rattle.std.specs.Prelude.{ℕ, List}
-use Rattle.terms.specs.Answers.{first_fault, unless, kept_unless}
-use Rattle.terms.specs.declared.Answer.{Answer}
-use Rattle.terms.specs.declared.Verdict.{Verdict}
+use Rattle.terms.specs.Answers.{unless, kept_unless, Answer, Verdict}
 use Rattle.file.specs.File.{road_in}
 use Rattle.file.specs.Reading.{read_verdict}
 use Rattle.writing.specs.Writing.{write_answer, write_list}
@@ -10,7 +8,7 @@ use Rattle.mirror.specs.Mirror.{mirror, mirror_verdict}
 
 -- a file whose road is to be mirrored: reading's refusals, then those of mirroring it
 unfoldable pub mirror_file_verdict : List ℕ → Verdict
-mirror_file_verdict file = first_fault (read_verdict file) (mirror_verdict (road_in file))
+mirror_file_verdict file = unless (read_verdict file) (mirror_verdict (road_in file))
 
 -- the file of the mirror, refused so, then as writing it is
 unfoldable pub mirror_file_answer : List ℕ → List ℕ → Answer

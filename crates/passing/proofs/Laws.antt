@@ -6,36 +6,27 @@ use mathlib.Core.List.{List}
 use Prim.Native.Nat.{ℕ, ◌+◌, ◌*◌, ◌%◌, ◌≤◌, ◌<◌}
 use native.Mathlib.Omega.{arith}
 use lib.Bits.{bit_or}
-use lib.Dec.{T, ltb}
 use lib.IntN.{ℤ}
 use lib.ListN.{length, get_or}
 use mir.Val.{bool_byte}
 use Rattle.whole.proofs.Fill.{filled_at}
-use Rattle.terms.specs.Limits.{greatest_list, greatest_farthest, eye_height, passing_object_height}
-use Rattle.terms.specs.declared.Answer.TheVariants.{Number}
+use Rattle.terms.specs.Limits.{greatest_list, greatest_farthest}
+use Rattle.std.specs.Prelude.{Ok}
 use Rattle.terms.proofs.Laws.{room_number}
 use Rattle.verdicts.proofs.Laws.{passing_accepted}
-use Rattle.sight.specs.Sight.{available_sight}
-use Rattle.marks.specs.Marks.{judged, bit}
+use Rattle.marks.specs.Marks.{bit}
 use Rattle.passing.specs.Passing.{passing_mark, passing_answer, passing_list}
 
 -- two tests, of which at most one holds, shifted to places 5 and 6 and joined
-shifted : (j l m : Bool) → (T j → l ≡ m) →
-    bit_or (bool_byte (j && l) * 32 % 256) (bool_byte (not j) * 64 % 256) ≡ bit 5 (j && m) + bit 6 (not j)
-shifted true true m p = rw (← p tt) refl
-shifted true false m p = rw (← p tt) refl
-shifted false l m p = refl
-
-pub passing_by_sight : (heights : List ℤ) (R i s : ℕ) → let j = judged heights R i in
-    (T j → s ≡ available_sight heights i eye_height passing_object_height R) →
-    bit_or (bool_byte (j && ltb s R) * 32 % 256) (bool_byte (not j) * 64 % 256) ≡ passing_mark heights R i
-unfolding passing_mark
-passing_by_sight heights R i s e = shifted (judged heights R i) (ltb s R) _ (λ t. rw (e t) refl)
+pub shifted : (j m : Bool) → bit_or (bool_byte (j && m) * 32 % 256) (bool_byte (not j) * 64 % 256) ≡ bit 5 (j && m) + bit 6 (not j)
+shifted true true = refl
+shifted true false = refl
+shifted false m = refl
 
 -- ---- where nothing is refused
 module _ (heights : List ℤ) (R : ℕ) (marks : List ℕ) (size : (1 ≤ length heights) × (length heights ≤ greatest_list))
     (range : (1 ≤ R) × (R ≤ greatest_farthest)) (room : length heights ≤ length marks) where
-  pub passing_number : passing_answer heights R marks ≡ Number (length heights)
+  pub passing_number : passing_answer heights R marks ≡ Ok (length heights)
   unfolding passing_answer
   passing_number = room_number _ _ marks (passing_accepted (length heights) R size range) room
 

@@ -1,8 +1,7 @@
 -- docs/RULES.md, "Passing": a station's passing mark, and the passing marks of heights.
 use Rattle.std.specs.Prelude.{ℕ, ◌+◌, not, ◌&&◌, List, ℤ, length}
-use Rattle.terms.specs.Answers.{unless, room_for, written}
+use Rattle.terms.specs.Answers.{unless, room_for, written, Answer}
 use Rattle.terms.specs.Limits.{eye_height, passing_object_height}
-use Rattle.terms.specs.declared.Answer.{Answer}
 use Rattle.verdicts.specs.Verdicts.{passing_verdict}
 use Rattle.marks.specs.Marks.{judged, lacking_at, bit}
 

@@ -1,45 +1,37 @@
--- Laws of the count of stations that differ: how it grows, what it is at most, what it depends on, and what 0 says.
+-- Laws of the count of stations that differ: what it depends on, what 0 says, and that it counts the places at which two lists differ.
 use Prim.Native.Nat.{ℕ, zero, suc, ◌+◌, ◌≤◌, ◌<◌}
-use mathlib.Core.Bool.{Bool, true, false, cond}
+use mathlib.Core.Bool.{cond, not}
+use mathlib.Core.List.{List}
 use mathlib.Core.Logic.{◌↔◌, ⊎_elim}
-use mathlib.Core.Path.{◌≡◌, refl}
+use mathlib.Core.Path.{◌≡◌, refl, ap₂, ◌∙◌}
 use native.Mathlib.Nat.{eq-or-lt_of_le}
-use native.Mathlib.Numerals.{add-one}
 use native.Mathlib.Omega.{arith}
-use borrow.Author.Tests.{eq-eqb, ne_eqb}
-use lib.Dec.{T, eqb, eqb→eq}
+use Rattle.std.proofs.lemmas.Bool.Decides.{nat_tests}
+use borrow.Author.Tests.{eq-eqb}
+use lib.Dec.{eqb}
+use lib.ListN.{length, get_or, take}
+use native.Mathlib.Numerals.{add-one}
+use Rattle.std.proofs.lemmas.List.Sums.{sum_by_more}
+use Rattle.std.proofs.lemmas.Slice.Zip.{length-zip, get_or-zip}
+use Rattle.std.specs.List.{count_by, zip}
 use Rattle.preview.specs.Preview.{differing}
 
 -- ---- what one station adds
 abbrev adds : ℕ → ℕ → ℕ
 adds a b = cond (eqb a b) 0 1
 
-adds_at_most : (a b : ℕ) → adds a b ≤ 1
-adds_at_most a b = go (eqb a b)
-  where
-    go : (t : Bool) → cond t 0 1 ≤ 1
-    go true = omega arith
-    go false = omega arith
-
 pub adds_none : (a b : ℕ) → a ≡ b → adds a b ≡ 0
 adds_none a b e = rw (eq-eqb a b e) refl
 
-pub adds_one : (a b : ℕ) → (a ≡ b → ⊥) → adds a b ≡ 1
-adds_one a b h = rw (ne_eqb a b h) refl
+adds_at_most : (a b : ℕ) → adds a b ≤ 1
+adds_at_most a b = grind (arith, nat_tests)
 
 none_adds : (a b : ℕ) → adds a b ≡ 0 → a ≡ b
-none_adds a b = go (eqb a b) (eqb→eq a b)
-  where
-    go : (t : Bool) → (T t → a ≡ b) → ◌≡◌ {A = ℕ} (cond t 0 1) 0 → a ≡ b
-    go true h e = h tt
-    go false h e = absurd (omega arith)
+none_adds a b e = grind (arith, nat_tests)
 
 -- ---- the count
 module _ (f g : ℕ → ℕ) where
-  pub differing_more : (n : ℕ) → differing f g (n + 1) ≡ differing f g n + adds (f n) (g n)
-  unfolding differing
-  differing_more n = rw add-one refl
-
+  -- at most all stations differ
   pub differing_at_most : (n : ℕ) → differing f g n ≤ n
   unfolding differing
   differing_at_most zero = omega arith
@@ -71,3 +63,17 @@ module _ (f g : ℕ → ℕ) where
 
   pub differing_none : (n : ℕ) → (differing f g n ≡ 0) ↔ ((i : ℕ) → i < n → f i ≡ g i)
   differing_none n = (same_where_none n, none_where_same n)
+
+-- ---- two lists
+as_counted : (a b : ℕ) → cond (not (eqb a b)) 1 0 ≡ adds a b
+as_counted a b = grind (arith, nat_tests)
+
+pub differing_zip : (xs ys : List ℕ) (n : ℕ) → n ≤ length xs → n ≤ length ys →
+    count_by (λ (p : ℕ × ℕ). not (eqb p.0 p.1)) (take n (zip xs ys)) ≡ differing (λ i. get_or xs i 0) (λ i. get_or ys i 0) n
+unfolding differing
+differing_zip xs ys zero k l = refl
+differing_zip xs ys (suc n) k l =
+    let more = sum_by_more (λ (p : ℕ × ℕ). cond (not (eqb p.0 p.1)) 1 0) (zip xs ys) n (0, 0) (omega (arith, length-zip xs ys)) in
+    rw add-one at more
+    ∙ ap₂ (λ (a b : ℕ). a + b) (differing_zip xs ys n (omega arith) (omega arith))
+    (rw (get_or-zip xs ys n (0, 0) (omega arith) (omega arith)) (as_counted (get_or xs n 0) (get_or ys n 0)))

@@ -1,12 +1,8 @@
 -- docs/RULES.md, "Trying another length": the preview, which marks a road as it is and as changed and counts where the marks differ.
-use Rattle.std.specs.Prelude.{ℕ, zero, suc, ◌+◌, Bool, cond, List, ltb, eqb, length}
-use Rattle.terms.specs.Answers.{fault, first_fault, unless, kept_unless}
+use Rattle.std.specs.Prelude.{ℕ, zero, suc, ◌+◌, Bool, cond, List, ltb, eqb, length, Ok}
+use Rattle.terms.specs.Answers.{refuse, unless, kept_unless, Answer, Verdict, accepted}
 use Rattle.terms.specs.Limits.{greatest_short_road}
-use Rattle.terms.specs.Refusals.{room_refused}
-use Rattle.terms.specs.declared.Answer.{Answer}
-use Rattle.terms.specs.declared.Answer.TheVariants.{Number}
-use Rattle.terms.specs.declared.Verdict.{Verdict}
-use Rattle.terms.specs.declared.Verdict.TheVariants.{Accepted}
+use Rattle.terms.specs.declared.Refusal.TheVariants.{NoRoom}
 use Rattle.road.specs.declared.Road.{Road}
 use Rattle.directions.specs.Directions.{forward}
 use Rattle.road_marks.specs.RoadMarks.{road_mark, mark_road_list}
@@ -25,15 +21,15 @@ too_short r list = ltb (length list) (r.length + 1)
 -- first list, then 14 for the second
 unfoldable pub preview_verdict : Road → ℕ → ℕ → List ℕ → List ℕ → Verdict
 preview_verdict r k l first second =
-    first_fault (change_verdict greatest_short_road r k l)
-    (fault (too_short r first) room_refused
-    (fault (too_short r second) room_refused Accepted))
+    unless (change_verdict greatest_short_road r k l)
+    (refuse (too_short r first) NoRoom
+    (refuse (too_short r second) NoRoom accepted))
 
 -- at how many of the road's stations the marks of the changed road differ from its own
 unfoldable pub preview_answer : Road → ℕ → ℕ → List ℕ → List ℕ → Answer
 preview_answer r k l first second =
     unless (preview_verdict r k l first second)
-    (Number (differing (road_mark r forward) (road_mark (with_length r k l) forward) (r.length + 1)))
+    (Ok (differing (road_mark r forward) (road_mark (with_length r k l) forward) (r.length + 1)))
 
 -- the first list holds what marking the road leaves in it; where the preview is refused it stays
 unfoldable pub preview_first : Road → ℕ → ℕ → List ℕ → List ℕ → List ℕ

@@ -1,10 +1,8 @@
 -- What the exported functions that try another length over a road file answer and leave in lent lists: as the operations on the file's
 -- road do, unless the file is refused.
 use Rattle.std.specs.Prelude.{ℕ, List}
-use Rattle.terms.specs.Answers.{first_fault, unless, kept_unless}
+use Rattle.terms.specs.Answers.{unless, kept_unless, Answer, Verdict}
 use Rattle.terms.specs.Limits.{greatest_long_road}
-use Rattle.terms.specs.declared.Answer.{Answer}
-use Rattle.terms.specs.declared.Verdict.{Verdict}
 use Rattle.file.specs.File.{road_in}
 use Rattle.file.specs.Reading.{read_verdict, short_read_verdict}
 use Rattle.writing.specs.Writing.{write_answer, write_list}
@@ -13,7 +11,7 @@ use Rattle.preview.specs.Preview.{preview_answer, preview_first, preview_second}
 
 -- a file whose road is to be changed: reading's refusals, then those of the change
 unfoldable pub change_file_verdict : List ℕ → ℕ → ℕ → Verdict
-change_file_verdict file k l = first_fault (read_verdict file) (change_verdict greatest_long_road (road_in file) k l)
+change_file_verdict file k l = unless (read_verdict file) (change_verdict greatest_long_road (road_in file) k l)
 
 -- the file of the changed road, refused so, then as writing it is
 unfoldable pub change_file_answer : List ℕ → ℕ → ℕ → List ℕ → Answer

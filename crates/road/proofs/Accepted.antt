@@ -11,11 +11,10 @@ use lib.ListN.{length, get_or}
 use lib.Seq.{get_or-take, length-take-le}
 use lib.Signed.{◌≤ℤ◌}
 use Rattle.whole.proofs.Table.{Each}
-use Rattle.terms.specs.Answers.{outside, outside_ℤ, grade_outside}
+use Rattle.terms.specs.Answers.{outside, outside_ℤ, grade_outside, accepted}
 use Rattle.terms.specs.Limits.{first_version, second_version, least_speed, greatest_speed, first_decision, last_purpose, lowest_start, highest_start, greatest_grade, greatest_curve_count, greatest_curve}
-use Rattle.terms.specs.Refusals.{version_refused, curve_count_refused, speed_refused, purpose_refused, road_length_refused, start_refused, grade_refused, curve_length_refused, curve_place_refused, curve_order_refused, sharp_break_refused}
-use Rattle.terms.specs.declared.Verdict.TheVariants.{Accepted}
-use Rattle.terms.proofs.Laws.{fault_accepted, first_fault_accepted, no_difference, inside, inside_ℤ}
+use Rattle.terms.specs.declared.Refusal.TheVariants.{WrongVersion, TooManyCurves, SpeedOutside, WrongPurpose, RoadLengthOutside, StartOutside, GradeOutside, WrongCurveLength, CurveOffRoad, CurvesOverlap, SharpBreak}
+use Rattle.terms.proofs.Laws.{refuse_accepted, unless_accepted, no_difference, inside, inside_ℤ}
 use Rattle.road.specs.declared.Curve.{Curve}
 use Rattle.road.specs.declared.Road.{Road}
 use Rattle.road.specs.Road.{half, begin, end, start_of, curves_of, length_outside, place_outside, sharp_break, curve_verdict, curves_verdict, longest_road, numbers_verdict, verdict_up_to}
@@ -26,15 +25,15 @@ is_false : (test : Bool) → T (not test) → test ≡ false
 is_false true t = absurd t
 is_false false t = refl
 
-accepted_curve : (n : ℕ) (before c : Curve) → curve_verdict n before c ≡ Accepted →
+accepted_curve : (n : ℕ) (before c : Curve) → curve_verdict n before c ≡ accepted →
     Placed n (end before) c × CurveInRange c × NotSharp before.grade_out c
 unfolding curve_verdict
 accepted_curve n before c e =
-    let grade = fault_accepted (grade_outside c.grade_out) grade_refused _ e in
-    let size = fault_accepted (length_outside c) curve_length_refused _ grade.1 in
-    let place = fault_accepted (place_outside n c) curve_place_refused _ size.1 in
-    let order = fault_accepted (ltb (begin c) (end before)) curve_order_refused _ place.1 in
-    let sharp = fault_accepted (sharp_break before c) sharp_break_refused _ order.1 in
+    let grade = refuse_accepted (grade_outside c.grade_out) GradeOutside _ e in
+    let size = refuse_accepted (length_outside c) WrongCurveLength _ grade.1 in
+    let place = refuse_accepted (place_outside n c) CurveOffRoad _ size.1 in
+    let order = refuse_accepted (ltb (begin c) (end before)) CurvesOverlap _ place.1 in
+    let sharp = refuse_accepted (sharp_break before c) SharpBreak _ order.1 in
     let g = inside_ℤ (neg_ℤ (pos greatest_grade)) (pos greatest_grade) c.grade_out grade.0 in
     let s = or_no (not (eqb (c.length % 2) 0)) (ltb greatest_curve c.length) size.0 in
     let p = or_no (ltb c.pvi (half c)) (ltb n (end c)) place.0 in (
@@ -48,12 +47,12 @@ accepted_curve n before c e =
       is_false (sharp_break before c) sharp.0,
     )
 
-accepted_curves : (n : ℕ) (before : Curve) (cs : List Curve) → curves_verdict n before cs ≡ Accepted →
+accepted_curves : (n : ℕ) (before : Curve) (cs : List Curve) → curves_verdict n before cs ≡ accepted →
     InOrder n (end before) cs × Each CurveInRange cs × Smooth before.grade_out cs
 unfolding curves_verdict
 accepted_curves n before [] e = (tt, tt, tt)
 accepted_curves n before (c ∷ cs) e =
-    let both = first_fault_accepted (curve_verdict n before c) _ e in
+    let both = unless_accepted (curve_verdict n before c) _ e in
     let here = accepted_curve n before c both.0 in let rest = accepted_curves n c cs both.1 in
     ((here.0, rest.0), (here.1, rest.1), (here.2, rest.2))
 
@@ -79,18 +78,18 @@ pub record SoundRoad (most : ℕ) (r : Road) : Type 0 where
   pub in_range : Each CurveInRange (curves_of r)
   pub smooth : Smooth r.first_grade (curves_of r)
 
-pub accepted_road : {most : ℕ} (r : Road) → verdict_up_to most r ≡ Accepted → SoundRoad most r
+pub accepted_road : {most : ℕ} (r : Road) → verdict_up_to most r ≡ accepted → SoundRoad most r
 unfolding verdict_up_to numbers_verdict
 accepted_road {most} r e =
     let longest = min most (longest_road r.version) in
-    let version = fault_accepted (outside first_version second_version r.version) version_refused _ e in
-    let count = fault_accepted (ltb greatest_curve_count r.count) curve_count_refused _ version.1 in
-    let both = first_fault_accepted (numbers_verdict most r) _ count.1 in
-    let speed = fault_accepted (outside least_speed greatest_speed r.speed) speed_refused _ both.0 in
-    let purpose = fault_accepted (outside first_decision last_purpose r.purpose) purpose_refused _ speed.1 in
-    let length = fault_accepted (outside 1 longest r.length) road_length_refused _ purpose.1 in
-    let start = fault_accepted (outside_ℤ lowest_start highest_start r.start_height) start_refused _ length.1 in
-    let grade = fault_accepted (grade_outside r.first_grade) grade_refused _ start.1 in
+    let version = refuse_accepted (outside first_version second_version r.version) WrongVersion _ e in
+    let count = refuse_accepted (ltb greatest_curve_count r.count) TooManyCurves _ version.1 in
+    let both = unless_accepted (numbers_verdict most r) _ count.1 in
+    let speed = refuse_accepted (outside least_speed greatest_speed r.speed) SpeedOutside _ both.0 in
+    let purpose = refuse_accepted (outside first_decision last_purpose r.purpose) WrongPurpose _ speed.1 in
+    let length = refuse_accepted (outside 1 longest r.length) RoadLengthOutside _ purpose.1 in
+    let start = refuse_accepted (outside_ℤ lowest_start highest_start r.start_height) StartOutside _ length.1 in
+    let grade = refuse_accepted (grade_outside r.first_grade) GradeOutside _ start.1 in
     let which = inside first_version second_version r.version version.0 in
     let v = inside least_speed greatest_speed r.speed speed.0 in
     let p = inside first_decision last_purpose r.purpose purpose.0 in
@@ -112,7 +111,7 @@ curve_at_lem n last (c ∷ cs) zero d order ranges h =
     (record { even = p.even; from_zero = p.from_zero; before_end = p.before_end; ordered = omega arith }, ranges.0)
 curve_at_lem n last (c ∷ cs) (suc i) d order ranges h = curve_at_lem n (end c) cs i d order.1 ranges.1 (omega arith)
 
-pub accepted_curve_at : (most : ℕ) (r : Road) → verdict_up_to most r ≡ Accepted → r.count ≤ length r.curves → (i : ℕ) (d : Curve) → i < r.count →
+pub accepted_curve_at : (most : ℕ) (r : Road) → verdict_up_to most r ≡ accepted → r.count ≤ length r.curves → (i : ℕ) (d : Curve) → i < r.count →
     Placed r.length 0 (get_or r.curves i d) × CurveInRange (get_or r.curves i d)
 accepted_curve_at most r e holds i d h =
     let s = accepted_road {most = most} r e in let used = length-take-le r.count r.curves holds in

@@ -1,4 +1,2 @@
 pub mod Accepted
-pub mod Faults
-pub mod Places
 pub mod UpTo

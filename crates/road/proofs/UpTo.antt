@@ -6,10 +6,9 @@ use mathlib.Core.Path.{◌≡◌, refl, ◌∙◌}
 use native.Mathlib.Omega.{arith}
 use borrow.Author.Tests.{lt-ltb, le-ltb, ltb-true, ltb-false}
 use lib.Dec.{ltb}
-use Rattle.terms.specs.Answers.{outside, fault}
+use Rattle.terms.specs.Answers.{outside, refuse, accepted}
 use Rattle.terms.specs.Limits.{first_version, second_version, least_speed, greatest_speed, first_decision, last_purpose, greatest_curve_count, greatest_short_road, greatest_long_road}
-use Rattle.terms.specs.Refusals.{road_length_refused}
-use Rattle.terms.specs.declared.Verdict.TheVariants.{Accepted}
+use Rattle.terms.specs.declared.Refusal.TheVariants.{RoadLengthOutside}
 use Rattle.terms.proofs.Laws.{not_outside}
 use Rattle.road.specs.declared.Road.{Road}
 use Rattle.road.specs.Road.{longest_road, numbers_verdict, verdict_up_to, road_verdict, short_road_verdict}
@@ -32,17 +31,17 @@ verdict_within most more r l m =
     rw (version_decides most longest r.length l, version_decides more longest r.length m)
 
 -- a road that the lister, the preview and the van's marking take is accepted
-pub short_accepted : (r : Road) → short_road_verdict r ≡ Accepted → road_verdict r ≡ Accepted
+pub short_accepted : (r : Road) → short_road_verdict r ≡ accepted → road_verdict r ≡ accepted
 short_accepted r e =
     let short = (accepted_road {most = greatest_short_road} r e).length_high in
     verdict_within greatest_long_road greatest_short_road r (omega (arith, short)) short ∙ e
 
 -- ---- an accepted road, up to any limit: its length decides
-pub accepted_up_to : (most : ℕ) (r : Road) → road_verdict r ≡ Accepted → verdict_up_to most r ≡ fault (ltb most r.length) road_length_refused Accepted
+pub accepted_up_to : (most : ℕ) (r : Road) → road_verdict r ≡ accepted → verdict_up_to most r ≡ refuse (ltb most r.length) RoadLengthOutside accepted
 unfolding verdict_up_to numbers_verdict
 accepted_up_to most r e = by_length (ltb most r.length) refl
   where
-    by_length : (b : Bool) → ltb most r.length ≡ b → verdict_up_to most r ≡ fault b road_length_refused Accepted
+    by_length : (b : Bool) → ltb most r.length ≡ b → verdict_up_to most r ≡ refuse b RoadLengthOutside accepted
     by_length true over =
         let s = accepted_road {most = greatest_long_road} r e in
         simp (

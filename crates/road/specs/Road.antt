@@ -1,11 +1,9 @@
 -- docs/RULES.md, "The road and its heights" and "Road file": when a road handed over as a value is accepted. The refusals are
 -- 3, 4, then 6 to 13 and 25; the lowest curve with a fault decides.
 use Rattle.std.specs.Prelude.{ℕ, ◌+◌, ◌-◌, ◌/◌, ◌%◌, min, Bool, not, cond, ◌||◌, ◌&&◌, List, [], ◌∷◌, ltb, eqb, pos, neg_ℤ, ◌-ℤ◌, take}
-use Rattle.terms.specs.Answers.{outside, outside_ℤ, grade_outside, fault, first_fault}
+use Rattle.terms.specs.Answers.{outside, outside_ℤ, grade_outside, refuse, unless, Verdict, accepted}
 use Rattle.terms.specs.Limits.{first_version, second_version, least_speed, greatest_speed, first_decision, last_purpose, greatest_short_road, greatest_long_road, lowest_start, highest_start, greatest_curve_count, greatest_curve, greatest_break}
-use Rattle.terms.specs.Refusals.{version_refused, curve_count_refused, speed_refused, purpose_refused, road_length_refused, start_refused, grade_refused, curve_length_refused, curve_place_refused, curve_order_refused, sharp_break_refused}
-use Rattle.terms.specs.declared.Verdict.{Verdict}
-use Rattle.terms.specs.declared.Verdict.TheVariants.{Accepted}
+use Rattle.terms.specs.declared.Refusal.TheVariants.{WrongVersion, TooManyCurves, SpeedOutside, WrongPurpose, RoadLengthOutside, StartOutside, GradeOutside, WrongCurveLength, CurveOffRoad, CurvesOverlap, SharpBreak}
 use Rattle.road.specs.declared.Curve.{Curve}
 use Rattle.road.specs.declared.Road.{Road}
 
@@ -47,16 +45,16 @@ sharp_break before c = eqb c.length 0 && outside_ℤ (neg_ℤ (pos greatest_brea
 -- one curve of a road of length n, after the one listed just before it: 10, 11, 12, 13, 25
 unfoldable pub curve_verdict : ℕ → Curve → Curve → Verdict
 curve_verdict n before c =
-    fault (grade_outside c.grade_out) grade_refused
-    (fault (length_outside c) curve_length_refused
-    (fault (place_outside n c) curve_place_refused
-    (fault (ltb (begin c) (end before)) curve_order_refused
-    (fault (sharp_break before c) sharp_break_refused Accepted))))
+    refuse (grade_outside c.grade_out) GradeOutside
+    (refuse (length_outside c) WrongCurveLength
+    (refuse (place_outside n c) CurveOffRoad
+    (refuse (ltb (begin c) (end before)) CurvesOverlap
+    (refuse (sharp_break before c) SharpBreak accepted))))
 
 -- the curves in turn, each after the one listed just before it; the lowest with a fault decides
 unfoldable pub curves_verdict : ℕ → Curve → List Curve → Verdict
-curves_verdict n before [] = Accepted
-curves_verdict n before (c ∷ cs) = first_fault (curve_verdict n before c) (curves_verdict n c cs)
+curves_verdict n before [] = accepted
+curves_verdict n before (c ∷ cs) = unless (curve_verdict n before c) (curves_verdict n c cs)
 
 -- the longest road of a version, in metres
 abbrev pub longest_road : ℕ → ℕ
@@ -65,18 +63,18 @@ longest_road version = cond (eqb version second_version) greatest_long_road grea
 -- a road's own numbers, the curves left out, where no road over `most` metres is taken: 6, 7, 8, 9, 10
 unfoldable pub numbers_verdict : ℕ → Road → Verdict
 numbers_verdict most r =
-    fault (outside least_speed greatest_speed r.speed) speed_refused
-    (fault (outside first_decision last_purpose r.purpose) purpose_refused
-    (fault (outside 1 (min most (longest_road r.version)) r.length) road_length_refused
-    (fault (outside_ℤ lowest_start highest_start r.start_height) start_refused
-    (fault (grade_outside r.first_grade) grade_refused Accepted))))
+    refuse (outside least_speed greatest_speed r.speed) SpeedOutside
+    (refuse (outside first_decision last_purpose r.purpose) WrongPurpose
+    (refuse (outside 1 (min most (longest_road r.version)) r.length) RoadLengthOutside
+    (refuse (outside_ℤ lowest_start highest_start r.start_height) StartOutside
+    (refuse (grade_outside r.first_grade) GradeOutside accepted))))
 
 -- a road, where none over `most` metres is taken: 3, 4, then its numbers, then its curves, the first of which comes after the road's start
 unfoldable pub verdict_up_to : ℕ → Road → Verdict
 verdict_up_to most r =
-    fault (outside first_version second_version r.version) version_refused
-    (fault (ltb greatest_curve_count r.count) curve_count_refused
-    (first_fault (numbers_verdict most r) (curves_verdict r.length (start_of r) (curves_of r))))
+    refuse (outside first_version second_version r.version) WrongVersion
+    (refuse (ltb greatest_curve_count r.count) TooManyCurves
+    (unless (numbers_verdict most r) (curves_verdict r.length (start_of r) (curves_of r))))
 
 -- whether a road is accepted
 abbrev pub road_verdict : Road → Verdict

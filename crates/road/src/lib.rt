@@ -1,14 +1,13 @@
 // docs/RULES.md, "The road and its heights" and "Road file": a road as a value, and its refusals.
 #![tactic(auto)]
 
-ghost use Rattle.std.specs.Prelude.{◌≤◌, min, ◌≡◌};
-ghost use Rattle.terms.specs.Limits.{greatest_curve_count};
+ghost use Rattle.std.specs.Prelude.{min, ◌≡◌};
 ghost use Rattle.road.specs.Road.{half, begin, end, start_of, curves_of, sharp_break, curve_verdict, curves_verdict, longest_road, numbers_verdict, verdict_up_to};
 
-use terms::Verdict;
+use terms::{Refusal, Verdict};
 
 // A curve: the station where its two straights meet (PVI), its length in metres, and its grade out.
-#[derive(Clone, Copy)]
+#[derive(Clone, Copy, Debug, PartialEq, Eq)]
 pub struct Curve {
     pub pvi: u32,
     pub length: u16,
@@ -19,8 +18,8 @@ pub struct Curve {
 pub const CURVE_PLACES: usize = terms::GREATEST_CURVE_COUNT as usize;
 
 // A road: its version, the speed, the decision purpose, the length N, the start height, the first grade, and the first `count` of
-// the curve places.
-#[derive(Clone, Copy)]
+// the curve places. A road takes no heap, so its places are an array. Any number may stand in each field, and is then refused.
+#[derive(Clone, Copy, Debug, PartialEq, Eq)]
 pub struct Road {
     pub version: u32,
     pub speed: u8,
@@ -41,140 +40,130 @@ fn longest_road(most: u32, version: u32) -> u32
     } else {
         terms::GREATEST_SHORT_ROAD
     };
-    if most < longest {
-        return most;
-    }
-    longest
+    most.min(longest)
 }
 
-// Refusals 6 to 10 of a road's own numbers, the curves left out, where no road over `most` metres is taken.
-#[tactic(auto, unfolding(crate::specs::Road::numbers_verdict))]
-fn numbers_verdict(road: Road, most: u32) -> Verdict
-    ensures { result ≡ numbers_verdict most road }
-{
-    let speed = road.speed as u32;
-    if terms::outside(terms::LEAST_SPEED, terms::GREATEST_SPEED, speed) {
-        return Verdict::Fault(terms::SPEED_REFUSED);
+impl Curve {
+    // Half its length, rounded down.
+    fn half(self) -> u32
+        ensures { result ≡ half self }
+    {
+        u32::from(self.length / 2)
     }
-    let purpose = road.purpose as u32;
-    if terms::outside(terms::FIRST_DECISION, terms::LAST_PURPOSE, purpose) {
-        return Verdict::Fault(terms::PURPOSE_REFUSED);
-    }
-    if terms::outside(1, longest_road(most, road.version), road.length) {
-        return Verdict::Fault(terms::ROAD_LENGTH_REFUSED);
-    }
-    let start = road.start_height;
-    if (start < terms::LOWEST_START) | (terms::HIGHEST_START < start) {
-        return Verdict::Fault(terms::START_REFUSED);
-    }
-    let grade = road.first_grade as i32;
-    if terms::grade_outside(grade) {
-        return Verdict::Fault(terms::GRADE_REFUSED);
-    }
-    Verdict::Accepted
-}
 
-// Half a curve's length, rounded down.
-fn half_of(c: Curve) -> u32
-    ensures { result ≡ half c }
-{
-    (c.length / 2) as u32
-}
+    // Where it begins; 0 for one that reaches back before station 0.
+    pub fn begin(self) -> u64
+        ensures { result ≡ begin self }
+    {
+        u64::from(self.pvi.saturating_sub(self.half()))
+    }
 
-// Where a curve begins; 0 for one that reaches back before station 0.
-pub fn begin_of(c: Curve) -> u64
-    ensures { result ≡ begin c }
-{
-    let half = half_of(c);
-    if c.pvi < half {
-        return 0;
+    // Where it ends. The sum fits, whatever the fields hold.
+    pub fn end(self) -> u64
+        ensures { result ≡ end self }
+    {
+        u64::from(self.pvi) + u64::from(self.half())
     }
-    c.pvi as u64 - half as u64
-}
 
-// Where a curve ends. The sum fits, whatever the fields hold.
-pub fn end_of(c: Curve) -> u64
-    ensures { result ≡ end c }
-{
-    let half = half_of(c);
-    c.pvi as u64 + half as u64
-}
+    // Whether it is a plain break whose grades differ by too much. The difference of any two grades fits 32 bits.
+    fn is_sharp_break(self, before: Curve) -> bool
+        ensures { result ≡ sharp_break before self }
+    {
+        let turn = i32::from(self.grade_out) - i32::from(before.grade_out);
+        // two comparisons: behind `&&` the proof of `contains` did not close
+        self.length == 0 && (turn < -terms::GREATEST_BREAK || terms::GREATEST_BREAK < turn)
+    }
 
-// Whether a curve is a plain break whose grades differ by too much. The difference of any two grades fits 32 bits.
-fn sharp_break(before: Curve, c: Curve) -> bool
-    ensures { result ≡ sharp_break before c }
-{
-    let turn = c.grade_out as i32 - before.grade_out as i32;
-    (c.length == 0) & ((turn < -terms::GREATEST_BREAK) | (terms::GREATEST_BREAK < turn))
-}
-
-// Refusals 10 to 13 and 25 of one curve of a road of length `n`, after the curve listed just before it.
-#[tactic(auto, unfolding(crate::specs::Road::curve_verdict))]
-fn curve_verdict(before: Curve, c: Curve, n: u32) -> Verdict
-    ensures { result ≡ curve_verdict n before c }
-{
-    let grade = c.grade_out as i32;
-    if terms::grade_outside(grade) {
-        return Verdict::Fault(terms::GRADE_REFUSED);
-    }
-    let length = c.length;
-    if (length % 2 != 0) | (terms::GREATEST_CURVE < length) {
-        return Verdict::Fault(terms::CURVE_LENGTH_REFUSED);
-    }
-    if (c.pvi < half_of(c)) | ((n as u64) < end_of(c)) {
-        return Verdict::Fault(terms::CURVE_PLACE_REFUSED);
-    }
-    if begin_of(c) < end_of(before) {
-        return Verdict::Fault(terms::CURVE_ORDER_REFUSED);
-    }
-    if sharp_break(before, c) {
-        return Verdict::Fault(terms::SHARP_BREAK_REFUSED);
-    }
-    Verdict::Accepted
-}
-
-// The curves in use in turn, each after the one listed just before it; the lowest with a fault decides.
-#[tactic(auto, unfolding(crate::specs::Road::curves_verdict))]
-fn curves_verdict(road: Road) -> Verdict
-    requires { road.count ≤ greatest_curve_count }
-    ensures { result ≡ curves_verdict road.length (start_of road) (curves_of road) }
-{
-    let count = road.count as usize;
-    let n = road.length;
-    let first_grade = road.first_grade;
-    let mut before = Curve {
-        pvi: 0,
-        length: 0,
-        grade_out: first_grade,
-    };
-    let mut i: usize = 0;
-    while i < count {
-        let c = road.curves[i];
-        let v = curve_verdict(before, c, n);
-        if let Verdict::Fault(_) = v {
-            return v;
+    // Its refusals 10 to 13 and 25 on a road of length `n`, after the curve listed just before it.
+    #[tactic(auto, unfolding(crate::specs::Road::curve_verdict))]
+    fn verdict(self, before: Curve, n: u32) -> Verdict
+        ensures { result ≡ curve_verdict n before self }
+    {
+        if terms::grade_outside(i32::from(self.grade_out)) {
+            return Err(Refusal::GradeOutside);
         }
-        before = c;
-        i += 1;
+        if self.length % 2 != 0 || terms::GREATEST_CURVE < self.length {
+            return Err(Refusal::WrongCurveLength);
+        }
+        if self.pvi < self.half() || u64::from(n) < self.end() {
+            return Err(Refusal::CurveOffRoad);
+        }
+        if self.begin() < before.end() {
+            return Err(Refusal::CurvesOverlap);
+        }
+        if self.is_sharp_break(before) {
+            return Err(Refusal::SharpBreak);
+        }
+        Ok(())
     }
-    Verdict::Accepted
 }
 
-// Whether a road is accepted where none over `most` metres is: the first of the refusals 3, 4, then 6 to 13 and 25, that applies to
-// it.
-#[tactic(auto, unfolding(crate::specs::Road::verdict_up_to))]
-pub fn verdict(road: Road, most: u32) -> Verdict
-    ensures { result ≡ verdict_up_to most road }
-{
-    if terms::outside(terms::FIRST_VERSION, terms::SECOND_VERSION, road.version) {
-        return Verdict::Fault(terms::VERSION_REFUSED);
+impl Road {
+    // The curves in use: the first `count` places, or all where there are not as many.
+    pub fn curves_in_use(&self) -> &[Curve]
+        ensures { result.now ≡ curves_of self.now }
+    {
+        let count = usize::from(self.count).min(CURVE_PLACES);
+        &self.curves[..count]
     }
-    if terms::GREATEST_CURVE_COUNT < road.count {
-        return Verdict::Fault(terms::CURVE_COUNT_REFUSED);
+
+    // Refusals 6 to 10 of its own numbers, the curves left out, where no road over `most` metres is taken.
+    #[tactic(auto, unfolding(crate::specs::Road::numbers_verdict))]
+    fn numbers_verdict(self, most: u32) -> Verdict
+        ensures { result ≡ numbers_verdict most self }
+    {
+        if terms::outside(
+            terms::LEAST_SPEED,
+            terms::GREATEST_SPEED,
+            u32::from(self.speed),
+        ) {
+            return Err(Refusal::SpeedOutside);
+        }
+        let purpose = u32::from(self.purpose);
+        if terms::outside(terms::FIRST_DECISION, terms::LAST_PURPOSE, purpose) {
+            return Err(Refusal::WrongPurpose);
+        }
+        if terms::outside(1, longest_road(most, self.version), self.length) {
+            return Err(Refusal::RoadLengthOutside);
+        }
+        if !(terms::LOWEST_START..=terms::HIGHEST_START).contains(&self.start_height) {
+            return Err(Refusal::StartOutside);
+        }
+        if terms::grade_outside(i32::from(self.first_grade)) {
+            return Err(Refusal::GradeOutside);
+        }
+        Ok(())
     }
-    let v = numbers_verdict(road, most);
-    match v {
-        Verdict::Fault(_) => v,
-        Verdict::Accepted => curves_verdict(road),
+
+    // The curves in use in turn, each after the one listed just before it; the lowest with a fault decides.
+    #[tactic(auto, unfolding(crate::specs::Road::curves_verdict))]
+    fn curves_verdict(self) -> Verdict
+        ensures { result ≡ curves_verdict self.length (start_of self) (curves_of self) }
+    {
+        let mut before = Curve {
+            pvi: 0,
+            length: 0,
+            grade_out: self.first_grade,
+        };
+        for &c in self.curves_in_use() {
+            c.verdict(before, self.length)?;
+            before = c;
+        }
+        Ok(())
+    }
+
+    // Whether it is accepted where none over `most` metres is: the first of the refusals 3, 4, then 6 to 13 and 25, that applies to it.
+    #[tactic(auto, unfolding(crate::specs::Road::verdict_up_to))]
+    pub fn verdict(self, most: u32) -> Verdict
+        ensures { result ≡ verdict_up_to most self }
+    {
+        if terms::outside(terms::FIRST_VERSION, terms::SECOND_VERSION, self.version) {
+            return Err(Refusal::WrongVersion);
+        }
+        if terms::GREATEST_CURVE_COUNT < self.count {
+            return Err(Refusal::TooManyCurves);
+        }
+        self.numbers_verdict(most)?;
+        self.curves_verdict()
     }
 }

@@ -1,8 +1,7 @@
 // docs/RULES.md, "Distances a driver needs": the grade that a road is marked with, and the distances that it needs on it.
 #![tactic(auto)]
 
-ghost use Rattle.std.specs.Prelude.{◌≡◌, length};
-ghost use Rattle.road.specs.Road.{curves_of};
+ghost use Rattle.std.specs.Prelude.{◌≡◌};
 ghost use Rattle.road_distances.specs.RoadDistances.{steeper, road_grade, road_distances};
 
 use distance::Distances;
@@ -12,22 +11,7 @@ use road::Road;
 fn steeper(back: bool, a: i32, b: i32) -> i32
     ensures { result ≡ steeper back a b }
 {
-    let first = if back { b < a } else { a < b };
-    if first {
-        return a;
-    }
-    b
-}
-
-// How many curves are in use, whatever the count holds.
-fn in_use(road: Road) -> usize
-    ensures { result ≡ length (curves_of road) }
-{
-    let count = road.count as usize;
-    if count < road::CURVE_PLACES {
-        return count;
-    }
-    road::CURVE_PLACES
+    if back { a.max(b) } else { a.min(b) }
 }
 
 // The least of a road's grades, the first one included, or 0 if none is negative; towards falling stations the greatest, or 0 if none
@@ -36,14 +20,11 @@ fn in_use(road: Road) -> usize
 pub fn road_grade(road: Road, back: bool) -> i32
     ensures { result ≡ road_grade road back }
 {
-    let mut i = in_use(road);
-    let mut steepest: i32 = 0;
-    while 0 < i {
-        i -= 1;
-        let c = road.curves[i];
-        steepest = steeper(back, c.grade_out as i32, steepest);
+    let mut steepest = i32::from(road.first_grade);
+    for c in road.curves_in_use() {
+        steepest = steeper(back, steepest, i32::from(c.grade_out));
     }
-    steeper(back, road.first_grade as i32, steepest)
+    steeper(back, steepest, 0)
 }
 
 // What a road needs on that grade to stop and to decide, at its own speed and for its own purpose.
@@ -52,5 +33,5 @@ pub fn road_distances(road: Road, back: bool) -> Distances
     ensures { result ≡ road_distances road back }
 {
     let grade = directions::driven_grade(back, road_grade(road, back));
-    distance::distances_for(road.speed as u32, road.purpose as u32, grade)
+    distance::distances_for(u32::from(road.speed), u32::from(road.purpose), grade)
 }

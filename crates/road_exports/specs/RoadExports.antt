@@ -1,9 +1,7 @@
 -- What the exported functions say of a file's road: the distance that it needs for a purpose, and whether the lister, the preview and the
 -- van's marking take it.
-use Rattle.std.specs.Prelude.{ℕ, ◌+◌, Bool, List}
-use Rattle.terms.specs.Answers.{unless}
-use Rattle.terms.specs.declared.Answer.{Answer}
-use Rattle.terms.specs.declared.Answer.TheVariants.{Number}
+use Rattle.std.specs.Prelude.{ℕ, ◌+◌, Bool, List, Ok}
+use Rattle.terms.specs.Answers.{unless, Answer}
 use Rattle.directions.specs.Directions.{driven_grade}
 use Rattle.distance.specs.Distance.{required_distance}
 use Rattle.road_distances.specs.RoadDistances.{road_grade}
@@ -18,4 +16,4 @@ file_distance file back purpose =
 
 -- the number of stations, refused as reading where no road over 8,000 m is taken
 unfoldable pub short_stations : List ℕ → Answer
-short_stations file = unless (short_read_verdict file) (Number ((road_in file).length + 1))
+short_stations file = unless (short_read_verdict file) (Ok ((road_in file).length + 1))

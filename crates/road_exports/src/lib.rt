@@ -8,7 +8,29 @@ ghost use Rattle.terms.specs.Limits.{greatest_long_road};
 ghost use Rattle.road_marks.specs.RoadMarks.{mark_file_answer, mark_file_list};
 ghost use Rattle.road_exports.specs.RoadExports.{file_distance, short_stations};
 
-use terms::{Answer, Verdict};
+use terms::Answer;
+
+// The distance that the road needs for a purpose, at its own speed and on the grade that it is marked with.
+#[tactic(auto, using(file::proofs::Sound::verdict_read, file::proofs::Sound::road_read), unfolding(crate::specs::RoadExports::file_distance))]
+fn file_distance(file: &[u8], back: bool, purpose: u32) -> Answer
+    ensures { result ≡ file_distance file.now back purpose }
+{
+    let read = file::read(file, terms::GREATEST_LONG_ROAD);
+    read.verdict?;
+    let road = read.road;
+    let grade = directions::driven_grade(back, road_distances::road_grade(road, back));
+    distance::required_distance(u32::from(road.speed), purpose, grade)
+}
+
+// The stations of a road that the lister, the preview and the van's marking take.
+#[tactic(auto, using(file::proofs::Sound::verdict_read, file::proofs::Sound::road_read), unfolding(crate::specs::RoadExports::short_stations))]
+fn short_stations(file: &[u8]) -> Answer
+    ensures { result ≡ short_stations file.now }
+{
+    let read = file::read(file, terms::GREATEST_SHORT_ROAD);
+    read.verdict?;
+    Ok(read.road.length + 1)
+}
 
 // The van's `vcp_mark_road_file` takes no road over 8,000 m; this takes any that is accepted.
 #[unsafe(no_mangle)]
@@ -19,33 +41,16 @@ pub extern "C" fn vcp_mark_file(file: &[u8], back: bool, marks: &mut [u8]) -> i6
     terms::signed_answer(road_marks::mark_road_file(file, back, marks))
 }
 
-// The distance that the road needs for a purpose, at its own speed and on the grade that it is marked with.
 #[unsafe(no_mangle)]
-#[tactic(auto, using(file::proofs::Sound::verdict_read, file::proofs::Sound::road_read), unfolding(crate::specs::RoadExports::file_distance))]
 pub extern "C" fn vcp_file_distance(file: &[u8], back: bool, purpose: u32) -> i64
     ensures { result ≡ signed (file_distance file.now back purpose) }
 {
-    let read = file::read(file, terms::GREATEST_LONG_ROAD);
-    let verdict = read.verdict;
-    if let Verdict::Fault(number) = verdict {
-        return terms::signed_answer(Answer::Refused(number));
-    }
-    let road = read.road;
-    let grade = directions::driven_grade(back, road_distances::road_grade(road, back));
-    terms::signed_answer(distance::required_distance(road.speed as u32, purpose, grade))
+    terms::signed_answer(file_distance(file, back, purpose))
 }
 
-// The stations of a road that the lister, the preview and the van's marking take.
 #[unsafe(no_mangle)]
-#[tactic(auto, using(file::proofs::Sound::verdict_read, file::proofs::Sound::road_read), unfolding(crate::specs::RoadExports::short_stations))]
 pub extern "C" fn vcp_short_stations(file: &[u8]) -> i64
     ensures { result ≡ signed (short_stations file.now) }
 {
-    let read = file::read(file, terms::GREATEST_SHORT_ROAD);
-    let verdict = read.verdict;
-    if let Verdict::Fault(number) = verdict {
-        return terms::signed_answer(Answer::Refused(number));
-    }
-    let road = read.road;
-    terms::signed_answer(Answer::Number(road.length + 1))
+    terms::signed_answer(short_stations(file))
 }

@@ -1,4 +1,3 @@
-pub mod Ends
 pub mod OwnMarks
 pub mod Small
 pub mod Taken

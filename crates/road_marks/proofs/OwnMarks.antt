@@ -4,8 +4,7 @@ use mathlib.Core.Bool.{Bool}
 use mathlib.Core.List.{List}
 use Prim.Native.Nat.{ℕ, ◌+◌}
 use native.Mathlib.Omega.{arith}
-use Rattle.terms.specs.Answers.{room_for, written}
-use Rattle.terms.specs.declared.Verdict.TheVariants.{Accepted}
+use Rattle.terms.specs.Answers.{room_for, written, accepted}
 use Rattle.verdicts.proofs.Laws.{MarksInRange, marks_accepted}
 use Rattle.road.specs.declared.Road.{Road}
 use Rattle.road.specs.Road.{road_verdict}
@@ -17,7 +16,7 @@ use Rattle.heights.proofs.Filled.{own_length}
 use Rattle.marks.specs.Marks.{marks_answer, marks_list}
 use Rattle.road_marks.specs.RoadMarks.{road_mark}
 
-module _ (r : Road) (back : Bool) (accepted : road_verdict r ≡ Accepted) where
+module _ (r : Road) (back : Bool) (accepted : road_verdict r ≡ accepted) where
   in_range : MarksInRange r.speed r.purpose (road_grade r back) (r.length + 1)
   in_range =
       let s = accepted_road r accepted in

@@ -1,7 +1,6 @@
 -- docs/RULES.md, "Marks and zones": marking a road, and marking a road file.
 use Rattle.std.specs.Prelude.{ℕ, ◌+◌, Bool, List}
-use Rattle.terms.specs.Answers.{unless, room_for, written}
-use Rattle.terms.specs.declared.Answer.{Answer}
+use Rattle.terms.specs.Answers.{unless, room_for, written, Answer}
 use Rattle.road.specs.declared.Road.{Road}
 use Rattle.road.specs.Road.{verdict_up_to}
 use Rattle.heights.specs.Heights.{own_heights}

@@ -9,11 +9,12 @@ use lib.Seq.{take-add, take_all, drop-drop}
 use mir.Syntax.{w16, w32}
 use Rattle.whole.proofs.Twos.{bits_back}
 use Rattle.file.specs.File.{byte_at, number_at, station_bytes, record_length, file_length, letters, version_in, curve_count, curve_at, road_in}
+use Rattle.file.proofs.Numbers.{number_below}
 use Rattle.file.proofs.Sound.{SoundHeader, curve_in}
 use Rattle.file.proofs.Stations.{records_within}
 use Rattle.writing.specs.Bytes.{bytes_of, header_bytes, curve_bytes, file_up_to, file_bytes}
 use Rattle.round_trip.specs.RoundTrip.{Bytes}
-use Rattle.round_trip.proofs.Numbers.{number_one, number_below, bytes_back}
+use Rattle.round_trip.proofs.Numbers.{number_one, bytes_back}
 
 -- the front of a list, and the piece behind it
 take_then : (l : List ℕ) (k w n : ℕ) {a b : List ℕ} → a ≡ take k l → b ≡ take w (drop k l) → n ≡ k + w → a ++ b ≡ take n l

@@ -39,11 +39,6 @@ number_back (suc w) n h =
 
 -- ---- from bytes to their number and back
 module _ (s : List ℕ) (bytes : Bytes s) where
-  pub number_below : (k w : ℕ) → number_at s k w < 256 ^ w
-  unfolding number_at
-  number_below k zero = omega arith
-  number_below k (suc w) = omega (arith, bytes k, number_below (k + 1) w)
-
   pub bytes_back : (k w : ℕ) → k + w ≤ length s → bytes_of w (number_at s k w) ≡ take w (drop k s)
   unfolding number_at
   bytes_back k zero h = refl

@@ -19,7 +19,7 @@ use Rattle.whole.proofs.Placed.{take-filled}
 use Rattle.whole.proofs.Range.{fits_by, range_size}
 use Rattle.whole.proofs.Twos.{bits_below}
 use Rattle.terms.specs.Limits.{second_version, greatest_short_road, greatest_long_road, greatest_curve_count, greatest_grade, lowest_start, highest_start}
-use Rattle.terms.specs.declared.Verdict.TheVariants.{Accepted}
+use Rattle.terms.specs.Answers.{accepted}
 use Rattle.road.specs.declared.Road.{Road}
 use Rattle.road.specs.declared.Curve.{Curve}
 use Rattle.road.specs.Road.{no_curve, curves_of, longest_road, numbers_verdict, verdict_up_to, road_verdict}
@@ -167,7 +167,7 @@ station_fits version n l = by_version (eqb version second_version) l
     by_version true h = omega arith
     by_version false h = omega arith
 
-module _ (r : Road) (holds : r.count ≤ length r.curves) (ok : road_verdict r ≡ Accepted) where
+module _ (r : Road) (holds : r.count ≤ length r.curves) (ok : road_verdict r ≡ accepted) where
   curve_back : (i : ℕ) → i < r.count → curve_at r.version (file_bytes r) i ≡ get_or (curves_of r) i no_curve
   unfolding curve_at
   curve_back i h =

@@ -7,8 +7,8 @@ use native.Mathlib.Omega.{arith}
 use lib.ListN.{length, take}
 use Rattle.whole.proofs.Placed.{take-filled}
 use Rattle.terms.specs.Limits.{greatest_long_road}
-use Rattle.terms.specs.declared.Answer.TheVariants.{Number}
-use Rattle.terms.specs.declared.Verdict.TheVariants.{Accepted}
+use Rattle.std.specs.Prelude.{Ok}
+use Rattle.terms.specs.Answers.{accepted}
 use Rattle.terms.proofs.Laws.{room_number}
 use Rattle.road.specs.declared.Road.{Road}
 use Rattle.road.specs.Road.{road_verdict}
@@ -22,8 +22,8 @@ use Rattle.round_trip.specs.RoundTrip.{ReadThenWritten, WrittenThenRead}
 use Rattle.round_trip.proofs.FileBack.{file_back}
 use Rattle.round_trip.proofs.RoadBack.{cleared_same, road_back, road_sound}
 
-module _ (r : Road) (buffer : List ℕ) (ok : road_verdict r ≡ Accepted) (room : file_length r.version r.count ≤ length buffer) where
-  written_answer : write_answer r buffer ≡ Number (file_length r.version r.count)
+module _ (r : Road) (buffer : List ℕ) (ok : road_verdict r ≡ accepted) (room : file_length r.version r.count ≤ length buffer) where
+  written_answer : write_answer r buffer ≡ Ok (file_length r.version r.count)
   unfolding write_answer
   written_answer = room_number _ _ buffer ok room
 
@@ -40,7 +40,7 @@ read_then_written s buffer bytes ok room =
     let holds : file_length (road_in s).version (road_in s).count ≤ length buffer = omega arith in
     let read = read_by greatest_long_road s _ e in
     record {
-      answer = rw read (written_answer (road_in s) buffer f.road holds ∙ ap Number size);
+      answer = rw read (written_answer (road_in s) buffer f.road holds ∙ ap Ok size);
       front = rw read (rw size at (written_front (road_in s) buffer f.road holds) ∙ back);
     }
 

@@ -1,10 +1,9 @@
 -- The round trips of a road file (docs/RULES.md, "Road file"): a file that is read and written again has the same bytes, and a road
 -- that is written and read again is the same road, in either version. They speak of the definitions that the contracts of reading and writing cite.
-use Rattle.std.specs.Prelude.{ℕ, ◌≤◌, ◌<◌, List, ◌≡◌, length, take, get_or, replicate}
+use Rattle.std.specs.Prelude.{ℕ, ◌≤◌, ◌<◌, List, ◌≡◌, length, take, get_or, replicate, Ok}
 use Rattle.whole.specs.Fill.{filled}
 use Rattle.terms.specs.Limits.{greatest_curve_count}
-use Rattle.terms.specs.declared.Answer.TheVariants.{Number}
-use Rattle.terms.specs.declared.Verdict.TheVariants.{Accepted}
+use Rattle.terms.specs.Answers.{accepted}
 use Rattle.road.specs.declared.Road.{Road}
 use Rattle.road.specs.Road.{no_curve, curves_of, road_verdict}
 use Rattle.file.specs.File.{byte_at, file_length}
@@ -19,7 +18,7 @@ Bytes s = (k : ℕ) → byte_at s k < 256
 -- what is said of a file and a buffer
 pub record SameFile (s buffer : List ℕ) : Type 0 where
   -- writing the road that was read answers the file's length
-  pub answer : write_answer (read_road s).road buffer ≡ Number (length s)
+  pub answer : write_answer (read_road s).road buffer ≡ Ok (length s)
   -- and leaves the file at the front of the buffer
   pub front : take (length s) (write_list (read_road s).road buffer) ≡ s
 
@@ -30,7 +29,7 @@ ReadThenWritten =
     -- every file, its elements being bytes,
     → Bytes s
     -- that reading accepts,
-    → (read_road s).verdict ≡ Accepted
+    → (read_road s).verdict ≡ accepted
     -- and every buffer with room for it
     → length s ≤ length buffer
     → SameFile s buffer
@@ -63,9 +62,9 @@ cleared r = record {
 -- what is said of a road and a buffer
 pub record ReadBack (r : Road) (buffer : List ℕ) : Type 0 where
   -- writing answers the length of a file of its version with its number of curves
-  pub answer : write_answer r buffer ≡ Number (file_length r.version r.count)
+  pub answer : write_answer r buffer ≡ Ok (file_length r.version r.count)
   -- reading so many bytes of the buffer accepts them, and gives the road with zero in its unused curve places,
-  pub read : read_road (take (file_length r.version r.count) (write_list r buffer)) ≡ record { verdict = Accepted; road = cleared r }
+  pub read : read_road (take (file_length r.version r.count) (write_list r buffer)) ≡ record { verdict = accepted; road = cleared r }
   -- which is the same road
   pub same : SameRoad (cleared r) r
 
@@ -76,7 +75,7 @@ WrittenThenRead =
     -- every road whose curves are all there
     → r.count ≤ length r.curves
     -- and that is accepted,
-    → road_verdict r ≡ Accepted
+    → road_verdict r ≡ accepted
     -- and every buffer with room for its file
     → file_length r.version r.count ≤ length buffer
     → ReadBack r buffer

@@ -8,18 +8,18 @@ use lib.IntN.{ℤ}
 use lib.ListN.{length, get_or}
 use Rattle.whole.proofs.Fill.{filled_at}
 use Rattle.terms.specs.Limits.{greatest_list}
-use Rattle.terms.specs.declared.Answer.TheVariants.{Number}
+use Rattle.std.specs.Prelude.{Ok}
 use Rattle.terms.proofs.Laws.{room_number}
 use Rattle.verdicts.proofs.Laws.{LookInRange, sight_accepted, profile_accepted}
 use Rattle.sight.specs.Operations.{sight_toward, sight_answer, profile_answer, profile_list}
 
 module _ (list : List ℤ) (back : Bool) (i e o far : ℕ) (on : i < length list) (short : length list ≤ greatest_list) (look : LookInRange e o far) where
-  pub sight_number : sight_answer list back i e o far ≡ Number (sight_toward list back i e o far)
+  pub sight_number : sight_answer list back i e o far ≡ Ok (sight_toward list back i e o far)
   unfolding sight_answer
   sight_number = rw (sight_accepted (length list) i e o far on short look)
 
   module _ (sights : List ℕ) (room : length list ≤ length sights) where
-    pub profile_number : profile_answer list e o far sights ≡ Number (length list)
+    pub profile_number : profile_answer list e o far sights ≡ Ok (length list)
     unfolding profile_answer
     profile_number = room_number _ _ sights (profile_accepted (length list) e o far (omega arith, short) look) room
 

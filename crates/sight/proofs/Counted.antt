@@ -25,10 +25,6 @@ use Rattle.sight.proofs.Steepest.{
 }
 
 -- ---- sums
-pub total_none : (f : ℕ → ℕ) → 0 ≡ total f 0
-unfolding total
-total_none f = refl
-
 pub total_next : (f : ℕ → ℕ) (n : ℕ) → total f (n + 1) ≡ total f n + f n
 unfolding total
 total_next f n = let q : n + 1 ≡ suc n = omega arith in rw q refl

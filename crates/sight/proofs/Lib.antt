@@ -4,3 +4,5 @@ pub mod Reach
 pub mod Toward
 pub mod Seen
 pub mod Steepest
+pub mod Widened
+pub mod Front

@@ -1,9 +1,7 @@
 -- docs/RULES.md, "What can be seen": how many sight lines the quick search compares. It asks of each object station first whether the
 -- road itself is seen there, since then the object is too, and asks whether the object is seen only where the road is not.
-use Rattle.std.specs.Prelude.{ℕ, zero, suc, ◌+◌, ◌-◌, min, Bool, cond, List, ℤ, length}
-use Rattle.terms.specs.Answers.{unless}
-use Rattle.terms.specs.declared.Answer.{Answer}
-use Rattle.terms.specs.declared.Answer.TheVariants.{Number}
+use Rattle.std.specs.Prelude.{ℕ, zero, suc, ◌+◌, ◌-◌, min, Bool, cond, List, ℤ, length, Ok}
+use Rattle.terms.specs.Answers.{unless, Answer}
 use Rattle.verdicts.specs.Verdicts.{sight_verdict}
 use Rattle.directions.specs.Directions.{faced, counted}
 use Rattle.sight.specs.Sight.{height_at, seen, available_sight}
@@ -31,4 +29,4 @@ comparisons_toward list back i e o far = comparisons (faced back list) (counted 
 
 -- refused as sight from one station is
 unfoldable pub comparisons_answer : List ℤ → Bool → ℕ → ℕ → ℕ → ℕ → Answer
-comparisons_answer list back i e o far = unless (sight_verdict (length list) i e o far) (Number (comparisons_toward list back i e o far))
+comparisons_answer list back i e o far = unless (sight_verdict (length list) i e o far) (Ok (comparisons_toward list back i e o far))

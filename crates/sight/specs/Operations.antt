@@ -1,9 +1,7 @@
 -- docs/RULES.md, "What can be seen", Sight from one station and Sight profile: the answers, and what the lent list holds at the
 -- end.
-use Rattle.std.specs.Prelude.{ℕ, Bool, List, ℤ, length}
-use Rattle.terms.specs.Answers.{unless, room_for, written}
-use Rattle.terms.specs.declared.Answer.{Answer}
-use Rattle.terms.specs.declared.Answer.TheVariants.{Number}
+use Rattle.std.specs.Prelude.{ℕ, Bool, List, ℤ, length, Ok}
+use Rattle.terms.specs.Answers.{unless, room_for, written, Answer}
 use Rattle.verdicts.specs.Verdicts.{sight_verdict, profile_verdict}
 use Rattle.directions.specs.Directions.{faced, counted}
 use Rattle.sight.specs.Sight.{available_sight}
@@ -15,7 +13,7 @@ sight_toward list back i e o far = available_sight (faced back list) (counted ba
 
 -- sight from one station: refused 19, 20, 17, 21
 unfoldable pub sight_answer : List ℤ → Bool → ℕ → ℕ → ℕ → ℕ → Answer
-sight_answer list back i e o far = unless (sight_verdict (length list) i e o far) (Number (sight_toward list back i e o far))
+sight_answer list back i e o far = unless (sight_verdict (length list) i e o far) (Ok (sight_toward list back i e o far))
 
 -- the sight profile: refused 19, 17, 21, 14; else how many places are written, one for each station
 unfoldable pub profile_answer : List ℤ → ℕ → ℕ → ℕ → List ℕ → Answer

@@ -6,6 +6,8 @@ ghost use Rattle.std.specs.Prelude.{◌≡◌};
 ghost use Rattle.terms.specs.Answers.{signed};
 ghost use Rattle.sight.specs.Operations.{sight_answer, profile_answer, profile_list};
 
+use verdicts::Look;
+
 #[unsafe(no_mangle)]
 pub extern "C" fn vcp_sight(
     heights: &[i32],
@@ -17,7 +19,12 @@ pub extern "C" fn vcp_sight(
 ) -> i64
     ensures { result ≡ signed (sight_answer heights.now back station eye object farthest) }
 {
-    terms::signed_answer(sight::sight(heights, back, station, eye, object, farthest))
+    let look = Look {
+        eye,
+        object,
+        farthest,
+    };
+    terms::signed_answer(sight::sight(heights, back, station, look))
 }
 
 #[unsafe(no_mangle)]
@@ -32,5 +39,10 @@ pub extern "C" fn vcp_sight_profile(
     ensures answer { result ≡ signed (profile_answer heights.now eye object farthest sights.old) }
     ensures list { sights.new ≡ profile_list heights.now back eye object farthest sights.old }
 {
-    terms::signed_answer(sight::profile(heights, back, eye, object, farthest, sights))
+    let look = Look {
+        eye,
+        object,
+        farthest,
+    };
+    terms::signed_answer(sight::profile(heights, back, look, sights))
 }

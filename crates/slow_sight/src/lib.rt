@@ -1,6 +1,7 @@
 // docs/RULES.md, "What can be seen", the slow way, for anyone to follow: for each object station in turn, up to the first hidden one,
 // every station strictly between is looked at, and nothing is remembered from one object station to the next. The contracts are those
-// of the crate `sight`.
+// of the crate `sight`. `sight` and `profile` are written here again: shared, they would be handed a search and be public functions with a
+// `requires`, which the project does not have.
 #![tactic(auto)]
 
 ghost use Rattle.std.specs.Prelude.{◌≡◌, ◌+◌, ◌≤◌, ◌<◌, length};
@@ -10,118 +11,118 @@ ghost use Rattle.directions.specs.Directions.{faced};
 ghost use Rattle.sight.specs.Sight.{height_at, clears, available_sight};
 ghost use Rattle.sight.specs.Operations.{sight_toward, sight_answer, profile_answer, profile_list};
 
-use terms::{Answer, Verdict};
+use terms::{Answer, Refusal};
+use verdicts::Look;
 
-// The height at place `k` of the stations as the driver meets them, docs/RULES.md, "The lane coming back".
-#[tactic(auto, using(directions::proofs::Laws::faced_at, directions::proofs::Laws::counted_below))]
-fn height_at(heights: &[i32], back: bool, k: usize) -> i32
-    requires { k < length heights.now }
-    ensures { result ≡ height_at (faced back heights.now) k }
-{
-    heights[directions::counted(back, heights.len(), k)]
+// A look along a road's heights in a direction, no farther than any that is accepted. Places are counted as the driver meets the stations,
+// docs/RULES.md, "The lane coming back".
+#[derive(Clone, Copy)]
+struct Drive<'a> {
+    heights: &'a [i32],
+    back: bool,
+    look: Look,
+    ghost near: { look.farthest ≤ greatest_farthest },
 }
 
-// Whether station `k` lets the line pass from the eye, `e` above station `i`, to the object, `o` above station `j`, all of them counted as
-// the driver meets them: the inequality of docs/RULES.md, "What can be seen", as it is worded there. Touching the road counts as passing.
-fn clears(heights: &[i32], back: bool, e: u32, o: u32, i: usize, j: usize, k: usize) -> bool
-    requires { (i < k) × (k < j) × (j < length heights.now) × (j ≤ i + greatest_farthest) }
-    ensures { result ≡ clears (height_at (faced back heights.now)) e o i j k }
-{
-    let eye = height_at(heights, back, i) as i64 + e as i64;
-    let object = height_at(heights, back, j) as i64 + o as i64;
-    let road = height_at(heights, back, k) as i64;
-    road * ((j - i) as i64) <= eye * ((j - k) as i64) + object * ((k - i) as i64)
-}
+impl Drive<'_> {
+    // The height at place `k`.
+    #[tactic(auto, using(directions::proofs::Laws::faced_at, directions::proofs::Laws::counted_below))]
+    fn height(&self, k: usize) -> i32
+        requires { k < length self.now.heights.now }
+        ensures { result ≡ height_at (faced self.now.back self.now.heights.now) k }
+    {
+        self.heights[directions::counted(self.back, self.heights.len(), k)]
+    }
 
-// The available sight from station `i`, the stations being counted as the driver meets them, as docs/RULES.md, "What can be seen", has it:
-// the greatest `s`, at most the farthest distance and at most the stations left, such that the object is seen at every `j` from `i + 1` to
-// `i + s`. So the search stops at the first hidden station.
-fn available_sight(heights: &[i32], back: bool, i: usize, e: u32, o: u32, far: usize) -> usize
-    requires { (i < length heights.now) × (far ≤ greatest_farthest) }
-    ensures { result ≡ available_sight (faced back heights.now) i e o far }
-{
-    let left = heights.len() - 1 - i;
-    let limit = if far < left { far } else { left };
-    let mut s: usize = 0;
-    let sight = 'objects: loop {
-        if s == limit {
-            break 'objects s;
-        }
-        let next = s + 1;
-        let j = i + next;
-        for k in i + 1..j {
-            if !clears(heights, back, e, o, i, j, k) {
+    // Whether the station at place `k` lets the line pass from the eye at place `i` to the object at place `j`: the inequality of
+    // docs/RULES.md, "What can be seen", as it is worded there. Touching the road counts as passing.
+    fn clears(&self, i: usize, j: usize, k: usize) -> bool
+        requires { (i < k) × (k < j) × (j < length self.now.heights.now) × (j ≤ i + greatest_farthest) }
+        ensures { result ≡ clears (height_at (faced self.now.back self.now.heights.now)) self.now.look.eye self.now.look.object i j k }
+    {
+        let eye = i64::from(self.height(i)) + i64::from(self.look.eye);
+        let object = i64::from(self.height(j)) + i64::from(self.look.object);
+        let road = i64::from(self.height(k));
+        road * ((j - i) as i64) <= eye * ((j - k) as i64) + object * ((k - i) as i64)
+    }
+
+    // The available sight from place `i`, as docs/RULES.md, "What can be seen", has it: the greatest `s`, at most the farthest distance and
+    // at most the stations left, such that the object is seen at every place from `i + 1` to `i + s`. So the search stops at the first
+    // hidden station.
+    fn available_sight(&self, i: usize) -> usize
+        requires { (i < length self.now.heights.now) }
+        ensures { result ≡ available_sight (faced self.now.back self.now.heights.now) i self.now.look.eye self.now.look.object self.now.look.farthest }
+    {
+        let limit = (self.look.farthest as usize).min(self.heights.len() - 1 - i);
+        let mut s = 0;
+        // the form of document 01
+        'objects: loop {
+            if s == limit {
                 break 'objects s;
             }
+            let next = s + 1;
+            let j = i + next;
+            // `k` is a station, and no slice is gone through
+            for k in i + 1..j {
+                if !self.clears(i, j, k) {
+                    break 'objects s;
+                }
+            }
+            s = next;
         }
-        s = next;
-    };
-    sight
-}
+    }
 
-// The sight from a station in a direction: from the place at which the driver meets it.
-#[tactic(auto, using(directions::proofs::Laws::counted_below), unfolding(sight::specs::Operations::sight_toward))]
-fn sight_toward(heights: &[i32], back: bool, station: usize, e: u32, o: u32, far: usize) -> usize
-    requires { (station < length heights.now) × (far ≤ greatest_farthest) }
-    ensures { result ≡ sight_toward heights.now back station e o far }
-{
-    let i = directions::counted(back, heights.len(), station);
-    available_sight(heights, back, i, e, o, far)
-}
+    // The sight from a station: from the place at which the driver meets it.
+    #[tactic(auto, using(directions::proofs::Laws::counted_below, sight::proofs::Reach::sight_le_far), unfolding(sight::specs::Operations::sight_toward))]
+    fn sight(&self, station: usize) -> u16
+        requires { (station < length self.now.heights.now) }
+        ensures { result ≡ sight_toward self.now.heights.now self.now.back station self.now.look.eye self.now.look.object self.now.look.farthest }
+    {
+        let i = directions::counted(self.back, self.heights.len(), station);
+        self.available_sight(i) as u16
+    }
 
-// The walk of the sight profile, docs/RULES.md, "What can be seen": each station's place gets its sight.
-#[tactic(auto, using(whole::proofs::Fill::filled_next, sight::proofs::Toward::toward_le_far), unfolding(whole::specs::Fill::filled))]
-fn fill_sights(heights: &[i32], back: bool, e: u32, o: u32, far: usize, sights: &mut [u16])
-    requires { (length heights.now ≤ length sights.old) × (far ≤ greatest_farthest) }
-    ensures { sights.new ≡ filled (λ i. sight_toward heights.now back i e o far) 0 (length heights.now) sights.old }
-{
-    for i in 0..heights.len() {
-        sights[i] = sight_toward(heights, back, i, e, o, far) as u16;
+    // The sight profile: each station's place gets its sight.
+    #[tactic(auto, using(whole::proofs::Fill::filled_next), unfolding(whole::specs::Fill::filled))]
+    fn fill_sights(&self, sights: &mut [u16])
+        requires fits { length sights.old ≤ length self.now.heights.now }
+        ensures { sights.new ≡ filled (λ i. sight_toward self.now.heights.now self.now.back i self.now.look.eye self.now.look.object self.now.look.farthest) 0 (length sights.old) sights.old }
+    {
+        for (station, place) in sights.iter_mut().enumerate() {
+            *place = self.sight(station);
+        }
     }
 }
 
 // Sight from one station in a direction, docs/RULES.md, "What can be seen".
-#[tactic(auto, using(sight::proofs::Toward::toward_le_far), unfolding(sight::specs::Operations::sight_answer))]
-pub fn sight(
-    heights: &[i32],
-    back: bool,
-    station: u32,
-    eye: u32,
-    object: u32,
-    farthest: u32,
-) -> Answer
-    ensures { result ≡ sight_answer heights.now back station eye object farthest }
+#[tactic(auto, using(verdicts::proofs::Laws::sight_in_range), unfolding(sight::specs::Operations::sight_answer))]
+pub fn sight(heights: &[i32], back: bool, station: u32, look: Look) -> Answer
+    ensures { result ≡ sight_answer heights.now back station look.eye look.object look.farthest }
 {
-    let verdict = verdicts::sight_verdict(heights.len(), station, eye, object, farthest);
-    if let Verdict::Fault(number) = verdict {
-        return Answer::Refused(number);
-    }
-    let from = station as usize;
-    let far = farthest as usize;
-    Answer::Number(sight_toward(heights, back, from, eye, object, far) as u32)
+    verdicts::sight_verdict(heights.len(), station, look)?;
+    let drive = Drive {
+        heights,
+        back,
+        look,
+    };
+    Ok(u32::from(drive.sight(station as usize)))
 }
 
 // The sight profile in a direction, docs/RULES.md, "What can be seen": every station's sight.
-#[tactic(auto, unfolding(sight::specs::Operations::profile_answer, sight::specs::Operations::profile_list))]
-pub fn profile(
-    heights: &[i32],
-    back: bool,
-    eye: u32,
-    object: u32,
-    farthest: u32,
-    sights: &mut [u16],
-) -> Answer
-    ensures answer { result ≡ profile_answer heights.now eye object farthest sights.old }
-    ensures list { sights.new ≡ profile_list heights.now back eye object farthest sights.old }
+#[tactic(auto, using(verdicts::proofs::Laws::profile_in_range, sight::proofs::Front::front_filled), unfolding(sight::specs::Operations::profile_answer, sight::specs::Operations::profile_list))]
+pub fn profile(heights: &[i32], back: bool, look: Look, sights: &mut [u16]) -> Answer
+    ensures answer { result ≡ profile_answer heights.now look.eye look.object look.farthest sights.old }
+    ensures list { sights.new ≡ profile_list heights.now back look.eye look.object look.farthest sights.old }
 {
-    let verdict = verdicts::profile_verdict(heights.len(), eye, object, farthest);
-    if let Verdict::Fault(number) = verdict {
-        return Answer::Refused(number);
-    }
+    verdicts::profile_verdict(heights.len(), look)?;
     if sights.len() < heights.len() {
-        return Answer::Refused(terms::ROOM_REFUSED);
+        return Err(Refusal::NoRoom);
     }
-    let far = farthest as usize;
-    fill_sights(heights, back, eye, object, far, sights);
-    Answer::Number(heights.len() as u32)
+    let drive = Drive {
+        heights,
+        back,
+        look,
+    };
+    drive.fill_sights(&mut sights[..heights.len()]);
+    Ok(heights.len() as u32)
 }

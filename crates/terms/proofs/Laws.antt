@@ -15,41 +15,49 @@ use lib.Seq.{length-take-le}
 use lib.Signed.{◌≤ℤ◌, lt_z, lt_z_yes, lt_z_no, clash_ℤ}
 use Rattle.whole.specs.Fill.{filled}
 use Rattle.whole.proofs.Fill.{filled-length, filled-take, filled_whole}
-use Rattle.terms.specs.Answers.{outside, outside_ℤ, grade_outside, eye_or_object_outside, refuse, room_for, written, fault, first_fault, unless, value_or_zero, signed}
+use Rattle.std.specs.Prelude.{Ok, Err}
+use Rattle.std.proofs.Common.{rules}
+use Rattle.terms.specs.Answers.{outside, outside_ℤ, grade_outside, eye_or_object_outside, Answer, Verdict, accepted, refuse, unless, room_for, written, value_or_zero, signed}
 use Rattle.terms.specs.Limits.{greatest_grade, greatest_height}
-use Rattle.terms.specs.Refusals.{room_refused}
-use Rattle.terms.specs.declared.Answer.{Answer}
-use Rattle.terms.specs.declared.Answer.TheVariants.{Number, Refused}
-use Rattle.terms.specs.declared.Verdict.{Verdict}
-use Rattle.terms.specs.declared.Verdict.TheVariants.{Accepted, Fault}
+use Rattle.terms.specs.Refusals.{number}
+use Rattle.terms.specs.declared.Refusal.{Refusal}
+use Rattle.terms.specs.declared.Refusal.TheVariants.{NoRoom}
 
 -- ---- answers
--- a value is at most m, and a refusal's number is a byte
+-- a value is at most m
 abbrev pub AtMost : ℕ → Answer → Type 0
-AtMost m (Number n) = n ≤ m
-AtMost m (Refused k) = k < 256
+AtMost m (Ok n) = n ≤ m
+AtMost m (Err refusal) = Unit {0}
 
 pub value_at_most : (a : Answer) {m : ℕ} → AtMost m a → value_or_zero a ≤ m
-value_at_most (Number n) h = h
-value_at_most (Refused k) h = omega arith
+value_at_most (Ok n) h = h
+value_at_most (Err refusal) h = omega arith
 
 -- what is not refused is bounded by the rest
-pub refuse_at_most : (test : Bool) (number m : ℕ) (rest : Answer) → number < 256 → (T (not test) → AtMost m rest) → AtMost m (refuse test number rest)
-refuse_at_most true number m rest l h = l
-refuse_at_most false number m rest l h = h tt
+pub refuse_at_most : (test : Bool) (refusal : Refusal) (m : ℕ) (rest : Answer) → (T (not test) → AtMost m rest) → AtMost m (refuse test refusal rest)
+refuse_at_most true refusal m rest h = tt
+refuse_at_most false refusal m rest h = h tt
+
+-- no refusal's number is over 27
+number_small : (refusal : Refusal) → number refusal ≤ 27
+number_small refusal = search arith
+
+-- a number below 2^31 with its sign changed is a signed 32-bit number
+minus_fits : (n : ℕ) → n < 2147483648 → SFits w32 (neg_ℤ (pos n))
+minus_fits zero l = record { sfits = omega arith }
+minus_fits (suc n) l = record { sfits = omega arith }
 
 -- an answer below 2^31 is a signed 32-bit number
 pub signed_fits : (a : Answer) (m : ℕ) → m < 2147483648 → AtMost m a → SFits w32 (signed a)
-signed_fits (Number n) m l h = record { sfits = omega arith }
-signed_fits (Refused zero) m l h = record { sfits = omega arith }
-signed_fits (Refused (suc k)) m l h = record { sfits = omega arith }
+signed_fits (Ok n) m l h = record { sfits = omega arith }
+signed_fits (Err refusal) m l h = minus_fits (number refusal) (omega (arith, number_small refusal))
 
 pub written-length : {A : Type 0} (f : ℕ → A) (answer : Answer) (xs : List A) → length (written f answer xs) ≡ length xs
-written-length f (Number n) xs = filled-length f 0 n xs
-written-length f (Refused k) xs = refl
+written-length f (Ok n) xs = filled-length f 0 n xs
+written-length f (Err refusal) xs = refl
 
 -- accepted, and the list has room
-pub room_number : {A : Type 0} (v : Verdict) (n : ℕ) (xs : List A) → v ≡ Accepted → n ≤ length xs → unless v (room_for n xs) ≡ Number n
+pub room_number : {A : Type 0} (v : Verdict) (n : ℕ) (xs : List A) → v ≡ accepted → n ≤ length xs → unless v (room_for n xs) ≡ Ok n
 room_number v n xs e l = rw (e, le-ltb (length xs) n l)
 
 -- the three ways in which an operation ends that is refused by a verdict, then 14, and else writes the first n places
@@ -57,17 +65,17 @@ module _ {A : Type 0} (f : ℕ → A) (v : Verdict) (n : ℕ) (xs : List A) wher
   abbrev pub Ends : Answer → List A → Type 0
   Ends a out = let answer = unless v (room_for n xs) in (a ≡ answer) × (out ≡ written f answer xs)
 
-  pub ends_fault : {k : ℕ} → v ≡ Fault k → Ends (Refused k) xs
+  pub ends_fault : {refusal : Refusal} → v ≡ Err refusal → Ends (Err refusal) xs
   ends_fault e = rw e (refl, refl)
 
-  pub ends_no_room : v ≡ Accepted → length xs < n → Ends (Refused room_refused) xs
+  pub ends_no_room : v ≡ accepted → length xs < n → Ends (Err NoRoom) xs
   ends_no_room e l = rw (e, lt-ltb (length xs) n l) (refl, refl)
 
-  pub ends_filled : (out : List A) → v ≡ Accepted → n ≤ length xs → out ≡ filled f 0 n xs → Ends (Number n) out
+  pub ends_filled : (out : List A) → v ≡ accepted → n ≤ length xs → out ≡ filled f 0 n xs → Ends (Ok n) out
   ends_filled out e l p = rw (room_number v n xs e l) (refl, p)
 
   -- what is written is what a list of just n places holds then
-  pub ends_front : (z : A) → v ≡ Accepted → n ≤ length xs → let just = replicate n z in
+  pub ends_front : (z : A) → v ≡ accepted → n ≤ length xs → let just = replicate n z in
       take n (written f (unless v (room_for n xs)) xs) ≡ written f (unless v (room_for n just)) just
   ends_front z e l =
       let size : length (replicate n z) ≡ n = length-replicate n z in
@@ -75,37 +83,23 @@ module _ {A : Type 0} (f : ℕ → A) (v : Verdict) (n : ℕ) (xs : List A) wher
       (filled-take f 0 n n xs (omega arith) ∙ filled_whole f n (take n xs) (replicate n z) (length-take-le n xs l) size)
 
 -- ---- verdicts
--- a fault is no acceptance
-pub fault_not_accepted : (number : ℕ) → Fault number ≡ Accepted → ⊥
-fault_not_accepted number e = let z : ◌≡◌ {A = ℕ} 0 1 = cc in omega arith
+-- a refusal is no value
+pub refused_not_ok : {A : Type 0} {refusal : Refusal} {a : A} → Err refusal ≡ Ok a → ⊥
+refused_not_ok e = search rules
 
--- a fault's number is a byte
-abbrev pub ByteFault : Verdict → Type 0
-ByteFault Accepted = Unit {0}
-ByteFault (Fault k) = k < 256
-
-pub fault_byte : (test : Bool) (number : ℕ) (rest : Verdict) → number < 256 → ByteFault rest → ByteFault (fault test number rest)
-fault_byte true number rest l h = l
-fault_byte false number rest l h = h
-
-pub first_fault_byte : (v rest : Verdict) → ByteFault v → ByteFault rest → ByteFault (first_fault v rest)
-first_fault_byte Accepted rest l h = h
-first_fault_byte (Fault k) rest l h = l
-
-pub unless_at_most :
-    (v : Verdict) (m : ℕ) (rest : Answer) → ByteFault v → (v ≡ Accepted → AtMost m rest) → AtMost m (unless v rest)
-unless_at_most Accepted m rest b h = h refl
-unless_at_most (Fault k) m rest b h = b
+pub unless_at_most : (v : Verdict) (m : ℕ) (rest : Answer) → (v ≡ accepted → AtMost m rest) → AtMost m (unless v rest)
+unless_at_most (Ok _) m rest h = h refl
+unless_at_most (Err refusal) m rest h = tt
 
 -- accepted, so the test does not hold and the rest is accepted
-pub fault_accepted : (test : Bool) (number : ℕ) (rest : Verdict) → fault test number rest ≡ Accepted → T (not test) × (rest ≡ Accepted)
-fault_accepted true number rest e = absurd (fault_not_accepted number e)
-fault_accepted false number rest e = (tt, e)
+pub refuse_accepted : (test : Bool) (refusal : Refusal) (rest : Verdict) → refuse test refusal rest ≡ accepted → T (not test) × (rest ≡ accepted)
+refuse_accepted true refusal rest e = absurd (refused_not_ok e)
+refuse_accepted false refusal rest e = (tt, e)
 
 -- neither of two verdicts is a fault
-pub first_fault_accepted : (v rest : Verdict) → first_fault v rest ≡ Accepted → (v ≡ Accepted) × (rest ≡ Accepted)
-first_fault_accepted Accepted rest e = (refl, e)
-first_fault_accepted (Fault k) rest e = absurd (fault_not_accepted k e)
+pub unless_accepted : (v rest : Verdict) → unless v rest ≡ accepted → (v ≡ accepted) × (rest ≡ accepted)
+unless_accepted (Ok _) rest e = (refl, e)
+unless_accepted (Err refusal) rest e = absurd (refused_not_ok e)
 
 -- ---- tests
 -- two numbers that do not differ

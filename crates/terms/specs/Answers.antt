@@ -1,13 +1,12 @@
 -- docs/RULES.md, "What an operation answers": how a definition says an answer: tests in their order, each with its refusal, and then the value.
-use Rattle.std.specs.Prelude.{ℕ, Bool, cond, ◌||◌, List, ltb, ℤ, pos, neg_ℤ, length}
+use Rattle.std.specs.Prelude.{ℕ, Bool, cond, ◌||◌, List, ltb, ℤ, pos, neg_ℤ, length, Result, Ok, Err}
+use Rattle.std.specs.Result.{result_unwrap_or}
 use Rattle.std.specs.Int.Signed.{lt_z}
 use Rattle.whole.specs.Fill.{filled}
 use Rattle.terms.specs.Limits.{greatest_grade, greatest_list, greatest_height}
-use Rattle.terms.specs.Refusals.{room_refused}
-use Rattle.terms.specs.declared.Answer.{Answer}
-use Rattle.terms.specs.declared.Answer.TheVariants.{Number, Refused}
-use Rattle.terms.specs.declared.Verdict.{Verdict}
-use Rattle.terms.specs.declared.Verdict.TheVariants.{Accepted, Fault}
+use Rattle.terms.specs.Refusals.{number}
+use Rattle.terms.specs.declared.Refusal.{Refusal}
+use Rattle.terms.specs.declared.Refusal.TheVariants.{NoRoom}
 
 -- x is not low to high
 abbrev pub outside : ℕ → ℕ → ℕ → Bool
@@ -29,45 +28,46 @@ outside_ℤ low high z = lt_z z low || lt_z high z
 abbrev pub grade_outside : ℤ → Bool
 grade_outside g = outside_ℤ (neg_ℤ (pos greatest_grade)) (pos greatest_grade) g
 
--- where the test holds, refused by that number; else as the rest says
-abbrev pub refuse : Bool → ℕ → Answer → Answer
-refuse test number rest = cond test (Refused number) rest
+-- the value, or why it is refused
+abbrev pub Answer : Type 0
+Answer = Result ℕ Refusal
 
--- the same of a verdict: the first test that holds gives the fault
-abbrev pub fault : Bool → ℕ → Verdict → Verdict
-fault test number rest = cond test (Fault number) rest
+-- accepted, or the first fault
+abbrev pub Verdict : Type 0
+Verdict = Result (Unit {0}) Refusal
 
--- a verdict's fault; else as the rest says
-abbrev pub first_fault : Verdict → Verdict → Verdict
-first_fault Accepted rest = rest
-first_fault (Fault k) rest = Fault k
+abbrev pub accepted : Verdict
+accepted = Ok tt
+
+-- where the test holds, so refused; else as the rest says: the first test that holds gives the fault of a verdict
+abbrev pub refuse : {A : Type 0} → Bool → Refusal → Result A Refusal → Result A Refusal
+refuse test refusal rest = cond test (Err refusal) rest
 
 -- refused by a verdict's fault; else as the rest says
-abbrev pub unless : Verdict → Answer → Answer
-unless Accepted rest = rest
-unless (Fault k) rest = Refused k
+abbrev pub unless : {A : Type 0} → Verdict → Result A Refusal → Result A Refusal
+unless (Ok _) rest = rest
+unless (Err refusal) rest = Err refusal
 
 -- the same of a lent list: as it was where there is a fault; else as the rest says
 abbrev pub kept_unless : {A : Type 0} → Verdict → List A → List A → List A
-kept_unless Accepted rest list = rest
-kept_unless (Fault k) rest list = list
+kept_unless (Ok _) rest list = rest
+kept_unless (Err refusal) rest list = list
 
 -- refused 14 where a lent list has fewer than n places; else n, the number of places that are written
 abbrev pub room_for : {A : Type 0} → ℕ → List A → Answer
-room_for n list = refuse (ltb (length list) n) room_refused (Number n)
+room_for n list = refuse (ltb (length list) n) NoRoom (Ok n)
 
 -- what a lent list holds at the end where f is written from its place 0 on: as many places as the answer says hold f of
 -- their index, the others stay; where the answer is a refusal all stay
 abbrev pub written : {A : Type 0} → (ℕ → A) → Answer → List A → List A
-written f (Number n) xs = filled f 0 n xs
-written f (Refused k) xs = xs
+written f (Ok n) xs = filled f 0 n xs
+written f (Err refusal) xs = xs
 
 -- the value of an answer, 0 for a refusal
 abbrev pub value_or_zero : Answer → ℕ
-value_or_zero (Number n) = n
-value_or_zero (Refused k) = 0
+value_or_zero answer = result_unwrap_or answer 0
 
 -- the answer as the van's program gets it, a refusal being minus its number
 abbrev pub signed : Answer → ℤ
-signed (Number n) = pos n
-signed (Refused k) = neg_ℤ (pos k)
+signed (Ok n) = pos n
+signed (Err refusal) = neg_ℤ (pos (number refusal))

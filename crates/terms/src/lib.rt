@@ -1,78 +1,84 @@
-// The answer of an operation and the verdict on a road, the tests of ranges, and the limits and refusal numbers of
-// docs/RULES.md as the code names them. specs/Limits.antt and specs/Refusals.antt give the definitions the same numbers under the same names.
+// The answer of an operation and the verdict on a road, the refusals, the tests of ranges, and the limits of docs/RULES.md. The definitions
+// name the refusals' own variants, and the limits in specs/Limits.antt.
 #![tactic(auto)]
 
 ghost use Rattle.std.specs.Prelude.{◌≡◌};
 ghost use Rattle.terms.specs.Answers.{outside, grade_outside, list_outside, eye_or_object_outside, value_or_zero, signed};
+ghost use Rattle.terms.specs.Refusals.{number};
 
-// The value, or the number of the refusal.
-#[derive(Clone, Copy)]
-pub enum Answer {
-    Number(u32),
-    Refused(u8),
+// Why an operation refuses: the refusals of docs/RULES.md, each with its number.
+#[derive(Clone, Copy, Debug, PartialEq, Eq)]
+pub enum Refusal {
+    // a file of fewer than 16 bytes, or of version 2 and fewer than 18
+    ShortFile = 1,
+    // a file that does not begin with the letters VCP
+    WrongLetters = 2,
+    // version not 1 or 2
+    WrongVersion = 3,
+    // number of curves over 32
+    TooManyCurves = 4,
+    // total length of a file wrong
+    WrongTotal = 5,
+    // speed not 20 to 130
+    SpeedOutside = 6,
+    // purpose not one of those asked for
+    WrongPurpose = 7,
+    // length of the road not 1 to 8,000, or to 100,000 in version 2
+    RoadLengthOutside = 8,
+    // start height not −10,000,000 to 90,000,000
+    StartOutside = 9,
+    // a grade not −1,500 to 1,500
+    GradeOutside = 10,
+    // length of a curve odd or over 2,000
+    WrongCurveLength = 11,
+    // a curve begins before 0 or ends after N
+    CurveOffRoad = 12,
+    // a curve begins before the end of the one listed just before it
+    CurvesOverlap = 13,
+    // a lent list or buffer is too short
+    NoRoom = 14,
+    // drop or rise in grade not 1 to 3,000
+    GradeChangeOutside = 15,
+    // sight distance not 1 to 800
+    SightDistanceOutside = 16,
+    // height of the eye or of the object not 1 to 50,000
+    HeightOutside = 17,
+    // no even length up to 2,000 is adequate
+    NoLength = 18,
+    // a list of heights or marks empty or longer than 100,001
+    ListOutside = 19,
+    // a station beyond the last
+    NoStation = 20,
+    // farthest distance or passing distance not 1 to 8,000
+    FarthestOutside = 21,
+    // bit number over 6
+    NoBit = 22,
+    // a lent list with fewer than two numbers for each zone
+    NoZoneRoom = 23,
+    // one of the six values of a passing manoeuvre out of its range
+    ManoeuvreOutside = 24,
+    // a plain break in grade whose grades differ by more than 50
+    SharpBreak = 25,
+    // a place beyond the last curve
+    NoCurve = 26,
+    // a road over 8,000 m of which a file of version 1 is wanted
+    LongRoad = 27,
 }
 
-// Whether a road is accepted, or the number of its first fault.
-#[derive(Clone, Copy)]
-pub enum Verdict {
-    Accepted,
-    Fault(u8),
+// The value, or why it is refused.
+pub type Answer = Result<u32, Refusal>;
+
+// Whether a road, a file or the numbers of an operation are accepted, or its first fault.
+pub type Verdict = Result<(), Refusal>;
+
+impl Refusal {
+    // Its number in docs/RULES.md.
+    pub fn number(self) -> u8
+        ensures { result ≡ number self }
+    {
+        self as u8
+    }
 }
-
-// ---- refusals
-pub const SHORT_FILE_REFUSED: u8 = 1;
-
-pub const LETTERS_REFUSED: u8 = 2;
-
-pub const VERSION_REFUSED: u8 = 3;
-
-pub const CURVE_COUNT_REFUSED: u8 = 4;
-
-pub const TOTAL_REFUSED: u8 = 5;
-
-pub const SPEED_REFUSED: u8 = 6;
-
-pub const PURPOSE_REFUSED: u8 = 7;
-
-pub const ROAD_LENGTH_REFUSED: u8 = 8;
-
-pub const START_REFUSED: u8 = 9;
-
-pub const GRADE_REFUSED: u8 = 10;
-
-pub const CURVE_LENGTH_REFUSED: u8 = 11;
-
-pub const CURVE_PLACE_REFUSED: u8 = 12;
-
-pub const CURVE_ORDER_REFUSED: u8 = 13;
-
-pub const ROOM_REFUSED: u8 = 14;
-
-pub const GRADE_CHANGE_REFUSED: u8 = 15;
-
-pub const SIGHT_DISTANCE_REFUSED: u8 = 16;
-
-pub const HEIGHT_REFUSED: u8 = 17;
-
-pub const NO_LENGTH_REFUSED: u8 = 18;
-
-pub const LIST_REFUSED: u8 = 19;
-
-pub const STATION_REFUSED: u8 = 20;
-
-pub const FARTHEST_REFUSED: u8 = 21;
-
-pub const BIT_REFUSED: u8 = 22;
-
-pub const ZONE_ROOM_REFUSED: u8 = 23;
-
-pub const MANOEUVRE_REFUSED: u8 = 24;
-
-pub const SHARP_BREAK_REFUSED: u8 = 25;
-
-pub const NO_CURVE_REFUSED: u8 = 26;
-
-pub const LONG_ROAD_REFUSED: u8 = 27;
 
 // ---- limits
 // Speeds in km/h.
@@ -175,38 +181,35 @@ pub const GREATEST_CLEARANCE: u32 = 90;
 pub fn outside(low: u32, high: u32, x: u32) -> bool
     ensures { result ≡ outside low high x }
 {
-    (x < low) | (high < x)
+    !(low..=high).contains(&x)
 }
 
 // Whether a grade is out of its range.
 pub fn grade_outside(grade: i32) -> bool
     ensures { result ≡ grade_outside grade }
 {
-    (grade < -GREATEST_GRADE) | (GREATEST_GRADE < grade)
+    !(-GREATEST_GRADE..=GREATEST_GRADE).contains(&grade)
 }
 
 // Whether a list of heights or marks is empty or too long.
 pub fn list_outside(length: usize) -> bool
     ensures { result ≡ list_outside length }
 {
-    (length < 1) | (GREATEST_LIST < length)
+    !(1..=GREATEST_LIST).contains(&length)
 }
 
 // Whether the height of the eye or that of the object is out of its range.
 pub fn eye_or_object_outside(eye: u32, object: u32) -> bool
     ensures { result ≡ eye_or_object_outside eye object }
 {
-    outside(1, GREATEST_HEIGHT, eye) | outside(1, GREATEST_HEIGHT, object)
+    outside(1, GREATEST_HEIGHT, eye) || outside(1, GREATEST_HEIGHT, object)
 }
 
 // The value of an answer, 0 for a refusal.
 pub fn value_or_zero(answer: Answer) -> u32
     ensures { result ≡ value_or_zero answer }
 {
-    match answer {
-        Answer::Number(n) => n,
-        Answer::Refused(_) => 0,
-    }
+    answer.unwrap_or(0)
 }
 
 // The answer as one signed number, a refusal being minus its number.
@@ -214,7 +217,7 @@ pub fn signed_answer(answer: Answer) -> i64
     ensures { result ≡ signed answer }
 {
     match answer {
-        Answer::Number(n) => n as i64,
-        Answer::Refused(k) => -(k as i64),
+        Ok(n) => i64::from(n),
+        Err(refusal) => -i64::from(refusal.number()),
     }
 }

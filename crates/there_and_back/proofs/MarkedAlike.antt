@@ -5,8 +5,8 @@ use mathlib.Core.List.{List}
 use mathlib.Core.Path.{◌≡◌, refl, sym, ap₂, ◌∙◌}
 use lib.IntN.{ℤ}
 use lib.ListN.{length}
-use Rattle.terms.specs.declared.Verdict.TheVariants.{Accepted}
-use Rattle.terms.proofs.Laws.{first_fault_accepted}
+use Rattle.terms.specs.Answers.{accepted}
+use Rattle.terms.proofs.Laws.{unless_accepted}
 use Rattle.road.specs.declared.Road.{Road}
 use Rattle.road.specs.Road.{verdict_up_to, road_verdict}
 use Rattle.road.proofs.UpTo.{accepted_up_to}
@@ -24,7 +24,7 @@ use Rattle.there_and_back.specs.MarkedAlike.{MarkedAlike}
 use Rattle.there_and_back.proofs.ThereAndBack.{readable, sound, accepted_there, readable_there, road_in_there}
 
 -- ---- a road that is accepted in both versions
-module _ (r : Road) (ok : road_verdict r ≡ Accepted) (there : road_verdict (converted r) ≡ Accepted) where
+module _ (r : Road) (ok : road_verdict r ≡ accepted) (there : road_verdict (converted r) ≡ accepted) where
   same_verdict : (most : ℕ) → verdict_up_to most (converted r) ≡ verdict_up_to most r
   unfolding in_version
   same_verdict most = accepted_up_to most (converted r) there ∙ sym (accepted_up_to most r ok)
@@ -41,15 +41,15 @@ module _ (r : Road) (ok : road_verdict r ≡ Accepted) (there : road_verdict (co
   same_mark back = ap₂ (λ (list : List ℤ) (d : Distances). mark_toward list back d) same_heights (same_distances back)
 
 -- ---- the two files
-module _ (s out : List ℕ) (can : convert_verdict s ≡ Accepted) (room : converted_length s ≤ length out) where
+module _ (s out : List ℕ) (can : convert_verdict s ≡ accepted) (room : converted_length s ≤ length out) where
   abbrev there : List ℕ
   there = converted_file s out
 
   same_read : (most : ℕ) → read_verdict_up_to most there ≡ read_verdict_up_to most s
   unfolding read_verdict_up_to
   same_read most =
-      let header = (first_fault_accepted (header_verdict s) _ (readable s can)).0 in
-      let header-there = (first_fault_accepted (header_verdict there) _ (readable_there s out can room)).0 in
+      let header = (unless_accepted (header_verdict s) _ (readable s can)).0 in
+      let header-there = (unless_accepted (header_verdict there) _ (readable_there s out can room)).0 in
       rw (header, header-there, road_in_there s out can room, same_verdict (road_in s) (sound s can).road (accepted_there s can) most)
 
   same_answer : (most : ℕ) (marks : List ℕ) → mark_file_answer most there marks ≡ mark_file_answer most s marks

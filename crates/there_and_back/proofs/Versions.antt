@@ -7,10 +7,9 @@ use native.Mathlib.Nat.{eq-or-lt_of_le}
 use native.Mathlib.Omega.{arith}
 use borrow.Author.Tests.{le-ltb}
 use lib.Dec.{ltb}
-use Rattle.terms.specs.Answers.{fault}
+use Rattle.terms.specs.Answers.{refuse, accepted}
 use Rattle.terms.specs.Limits.{first_version, second_version, greatest_short_road, greatest_long_road}
-use Rattle.terms.specs.Refusals.{road_length_refused}
-use Rattle.terms.specs.declared.Verdict.TheVariants.{Accepted}
+use Rattle.terms.specs.declared.Refusal.TheVariants.{RoadLengthOutside}
 use Rattle.road.specs.declared.Road.{Road}
 use Rattle.road.specs.Road.{longest_road, numbers_verdict, verdict_up_to, road_verdict, short_road_verdict}
 use Rattle.road.proofs.Accepted.{accepted_road}
@@ -34,7 +33,7 @@ unfolding in_version
 own_version r e = rw (← e) refl
 
 -- in version 2 every accepted road is accepted
-in_second : (r : Road) → road_verdict r ≡ Accepted → road_verdict (in_version second_version r) ≡ Accepted
+in_second : (r : Road) → road_verdict r ≡ accepted → road_verdict (in_version second_version r) ≡ accepted
 in_second r ok =
     let f = accepted_road r ok in
     ⊎_elim
@@ -64,9 +63,9 @@ module _ (version : ℕ) (low : first_version ≤ version) (high : version ≤ s
       ⊎_elim (λ e. rw e refl) (λ e. rw e (sym (le-ltb greatest_long_road r.length within))) (either_version version low high)
 
 -- ---- an accepted road in its other version
-module _ (r : Road) (ok : road_verdict r ≡ Accepted) where
+module _ (r : Road) (ok : road_verdict r ≡ accepted) where
   -- it is refused 8 there just where it is too long
-  pub verdict_there : road_verdict (converted r) ≡ fault (too_long_for (other_version r.version) r) road_length_refused Accepted
+  pub verdict_there : road_verdict (converted r) ≡ refuse (too_long_for (other_version r.version) r) RoadLengthOutside accepted
   verdict_there =
       let f = accepted_road r ok in let other = other_version r.version in
       let range = other_in_range r.version f.version_low f.version_high in

@@ -1,11 +1,9 @@
 -- What converting a road file keeps (docs/RULES.md, "Converting a file"). The statements speak of the definitions that the contracts of
 -- converting, reading and writing cite.
-use Rattle.std.specs.Prelude.{ℕ, ◌≤◌, List, ◌≡◌, ltb, length, take}
-use Rattle.terms.specs.Answers.{fault, refuse, room_for}
+use Rattle.std.specs.Prelude.{ℕ, ◌≤◌, List, ◌≡◌, ltb, length, take, Ok}
+use Rattle.terms.specs.Answers.{refuse, room_for, accepted}
 use Rattle.terms.specs.Limits.{first_version, second_version}
-use Rattle.terms.specs.Refusals.{road_length_refused, long_road_refused}
-use Rattle.terms.specs.declared.Answer.TheVariants.{Number}
-use Rattle.terms.specs.declared.Verdict.TheVariants.{Accepted}
+use Rattle.terms.specs.declared.Refusal.TheVariants.{RoadLengthOutside, LongRoad}
 use Rattle.road.specs.declared.Road.{Road}
 use Rattle.road.specs.Road.{longest_road, road_verdict}
 use Rattle.file.specs.File.{file_length, version_in, curve_count, road_in}
@@ -21,9 +19,9 @@ AcceptedInEither =
     → first_version ≤ version
     → version ≤ second_version
     -- every road that is accepted
-    → road_verdict r ≡ Accepted
+    → road_verdict r ≡ accepted
     -- is accepted too, unless it is longer than a road of that version may be, which is refused 8
-    → road_verdict (in_version version r) ≡ fault (ltb (longest_road version) r.length) road_length_refused Accepted
+    → road_verdict (in_version version r) ≡ refuse (ltb (longest_road version) r.length) RoadLengthOutside accepted
 
 -- ---- what comes after reading
 -- how many bytes the converted file has: those of a file of the other version with as many curves
@@ -34,9 +32,9 @@ abbrev pub AfterReading : Type 0
 AfterReading =
     (s out : List ℕ)
     -- of every file that reading accepts
-    → read_verdict s ≡ Accepted
+    → read_verdict s ≡ accepted
     -- converting is refused 27 or 14 and by no other number, or answers the length of the converted file
-    → convert_answer s out ≡ refuse (too_long_for (other_version (version_in s)) (road_in s)) long_road_refused (room_for (converted_length s) out)
+    → convert_answer s out ≡ refuse (too_long_for (other_version (version_in s)) (road_in s)) LongRoad (room_for (converted_length s) out)
 
 -- ---- converted, then read
 -- the converted file, which stands at the front of the buffer
@@ -46,16 +44,16 @@ converted_file s out = take (converted_length s) (convert_list s out)
 -- what is said of a file and a buffer
 pub record SameRoadThere (s out : List ℕ) : Type 0 where
   -- converting answers the length of the converted file,
-  pub answer : convert_answer s out ≡ Number (converted_length s)
+  pub answer : convert_answer s out ≡ Ok (converted_length s)
   -- and reading accepts that file and gives the same road as of the first one, apart from its version
-  pub read : read_road (converted_file s out) ≡ record { verdict = Accepted; road = converted (read_road s).road }
+  pub read : read_road (converted_file s out) ≡ record { verdict = accepted; road = converted (read_road s).road }
 
 -- it holds of
 abbrev pub ConvertedThenRead : Type 0
 ConvertedThenRead =
     (s out : List ℕ)
     -- every file that can be converted,
-    → convert_verdict s ≡ Accepted
+    → convert_verdict s ≡ accepted
     -- and every buffer with room for the converted one
     → converted_length s ≤ length out
     → SameRoadThere s out
@@ -64,7 +62,7 @@ ConvertedThenRead =
 -- what is said of a file and two buffers
 pub record SameBytes (s out back : List ℕ) : Type 0 where
   -- converting the converted file answers the first file's length
-  pub answer : convert_answer (converted_file s out) back ≡ Number (length s)
+  pub answer : convert_answer (converted_file s out) back ≡ Ok (length s)
   -- and leaves the first file at the front of the second buffer
   pub front : take (length s) (convert_list (converted_file s out) back) ≡ s
 
@@ -75,7 +73,7 @@ ThereAndBack =
     -- every file, its elements being bytes,
     → Bytes s
     -- that can be converted,
-    → convert_verdict s ≡ Accepted
+    → convert_verdict s ≡ accepted
     -- and buffers with room for the converted one
     → converted_length s ≤ length out
     -- and for the first one

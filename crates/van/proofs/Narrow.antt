@@ -7,8 +7,7 @@ use lib.Signed.{mag}
 use mir.Syntax.{w32, w64}
 use mir.Val.{SFits, hbits, to_z, of_z}
 use Rattle.whole.proofs.Machine.{plain, got}
-use Rattle.terms.specs.Answers.{signed}
-use Rattle.terms.specs.declared.Answer.{Answer}
+use Rattle.terms.specs.Answers.{signed, Answer}
 use Rattle.terms.proofs.Laws.{AtMost, signed_fits}
 
 -- what is asked of the narrowing, and what it gives

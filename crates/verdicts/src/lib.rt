@@ -5,45 +5,55 @@
 ghost use Rattle.std.specs.Prelude.{◌≡◌};
 ghost use Rattle.verdicts.specs.Verdicts.{look_verdict, sight_verdict, profile_verdict, marks_verdict, passing_verdict};
 
-use terms::Verdict;
+use terms::{Refusal, Verdict};
 
-// Refusals 17 and 21 of a look from an eye to an object.
-#[tactic(auto, unfolding(crate::specs::Verdicts::look_verdict))]
-fn look_verdict(eye: u32, object: u32, farthest: u32) -> Verdict
-    ensures { result ≡ look_verdict eye object farthest }
-{
-    if terms::eye_or_object_outside(eye, object) {
-        return Verdict::Fault(terms::HEIGHT_REFUSED);
+// A look along a road: the heights of the eye and of the object in h-units, and the farthest distance in metres.
+#[derive(Clone, Copy, Debug, PartialEq, Eq)]
+pub struct Look {
+    pub eye: u32,
+    pub object: u32,
+    pub farthest: u32,
+}
+
+impl Look {
+    // Refusals 17 and 21.
+    #[tactic(auto, unfolding(crate::specs::Verdicts::look_verdict))]
+    fn verdict(self) -> Verdict
+        ensures { result ≡ look_verdict self.eye self.object self.farthest }
+    {
+        if terms::eye_or_object_outside(self.eye, self.object) {
+            return Err(Refusal::HeightOutside);
+        }
+        if terms::outside(1, terms::GREATEST_FARTHEST, self.farthest) {
+            return Err(Refusal::FarthestOutside);
+        }
+        Ok(())
     }
-    if terms::outside(1, terms::GREATEST_FARTHEST, farthest) {
-        return Verdict::Fault(terms::FARTHEST_REFUSED);
-    }
-    Verdict::Accepted
 }
 
 // Sight from one station, over as many heights.
 #[tactic(auto, unfolding(crate::specs::Verdicts::sight_verdict))]
-pub fn sight_verdict(heights: usize, station: u32, eye: u32, object: u32, farthest: u32) -> Verdict
-    ensures { result ≡ sight_verdict heights station eye object farthest }
+pub fn sight_verdict(heights: usize, station: u32, look: Look) -> Verdict
+    ensures { result ≡ sight_verdict heights station look.eye look.object look.farthest }
 {
     if terms::list_outside(heights) {
-        return Verdict::Fault(terms::LIST_REFUSED);
+        return Err(Refusal::ListOutside);
     }
     if heights <= station as usize {
-        return Verdict::Fault(terms::STATION_REFUSED);
+        return Err(Refusal::NoStation);
     }
-    look_verdict(eye, object, farthest)
+    look.verdict()
 }
 
 // The sight profile, but for the room in its list.
 #[tactic(auto, unfolding(crate::specs::Verdicts::profile_verdict))]
-pub fn profile_verdict(heights: usize, eye: u32, object: u32, farthest: u32) -> Verdict
-    ensures { result ≡ profile_verdict heights eye object farthest }
+pub fn profile_verdict(heights: usize, look: Look) -> Verdict
+    ensures { result ≡ profile_verdict heights look.eye look.object look.farthest }
 {
     if terms::list_outside(heights) {
-        return Verdict::Fault(terms::LIST_REFUSED);
+        return Err(Refusal::ListOutside);
     }
-    look_verdict(eye, object, farthest)
+    look.verdict()
 }
 
 // Marks, but for the room in their list.
@@ -52,18 +62,18 @@ pub fn marks_verdict(speed: u32, purpose: u32, grade: i32, heights: usize) -> Ve
     ensures { result ≡ marks_verdict speed purpose grade heights }
 {
     if terms::outside(terms::LEAST_SPEED, terms::GREATEST_SPEED, speed) {
-        return Verdict::Fault(terms::SPEED_REFUSED);
+        return Err(Refusal::SpeedOutside);
     }
     if terms::outside(terms::FIRST_DECISION, terms::LAST_PURPOSE, purpose) {
-        return Verdict::Fault(terms::PURPOSE_REFUSED);
+        return Err(Refusal::WrongPurpose);
     }
     if terms::grade_outside(grade) {
-        return Verdict::Fault(terms::GRADE_REFUSED);
+        return Err(Refusal::GradeOutside);
     }
     if terms::list_outside(heights) {
-        return Verdict::Fault(terms::LIST_REFUSED);
+        return Err(Refusal::ListOutside);
     }
-    Verdict::Accepted
+    Ok(())
 }
 
 // Passing marks, but for the room in their list.
@@ -72,10 +82,10 @@ pub fn passing_verdict(heights: usize, distance: u32) -> Verdict
     ensures { result ≡ passing_verdict heights distance }
 {
     if terms::list_outside(heights) {
-        return Verdict::Fault(terms::LIST_REFUSED);
+        return Err(Refusal::ListOutside);
     }
     if terms::outside(1, terms::GREATEST_FARTHEST, distance) {
-        return Verdict::Fault(terms::FARTHEST_REFUSED);
+        return Err(Refusal::FarthestOutside);
     }
-    Verdict::Accepted
+    Ok(())
 }

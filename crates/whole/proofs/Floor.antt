@@ -1,22 +1,19 @@
--- Rounding down: h is the floor of n / d where h d ≤ n < (h + 1) d. There is one such h, `floor` computes it, and
--- the machine's division, which rounds toward zero, comes to it by way of −1 − n.
+-- Rounding down: h is the floor of n / d where h d ≤ n < (h + 1) d. There is one such h, and
+-- `floor` computes it.
 use mathlib.Core.Path.{◌≡◌, refl, ap₂}
 use mathlib.Core.Bool.{◌&&◌}
 use Prim.Native.Nat.{ℕ, zero, suc, ◌+◌, ◌*◌, ◌/◌, ◌≤◌, ◌<◌}
 use native.Mathlib.Omega.{arith}
 use native.Mathlib.Nat.{div-le_self, div-mul-le_self, div-lt_iff_lt-mul, div-le_of_le-mul, lt-mul-div-succ}
-use lib.IntN.{ℤ, pos, negsuc, neg_ℤ, nat_abs, ◌+ℤ◌, ◌-ℤ◌, ◌*ℤ◌}
-use lib.Signed.{mag, quot_z, ◌≤ℤ◌, ◌<ℤ◌}
-use mir.Syntax.{Width}
-use mir.Val.{SFits, of_z}
-use mir.ValLaws.{sfits_le}
+use lib.IntN.{ℤ, pos, negsuc, nat_abs, ◌+ℤ◌, ◌*ℤ◌}
+use lib.Signed.{◌≤ℤ◌, ◌<ℤ◌}
 use mir.Facts.{and_yes}
+use Rattle.std.specs.Int.{int_div_euclid}
 use Rattle.whole.specs.Floor.{floor_div, floor}
 use Rattle.whole.specs.Fractions.{Frac, whole}
 use Rattle.whole.proofs.Int.{var, nat, add, by, le_by, lt_by, le_to, lt_to, reps}
 use Rattle.whole.proofs.Ring.{≤ℤ_antisym, ≤ℤ-<ℤ_trans, ≤ℤ_of_<_suc, *ℤ_cancel_<}
 use Rattle.whole.proofs.Range.{Below, Reads}
-use Rattle.whole.proofs.Twos.{turn_pos, turn_negsuc}
 
 -- ---- the greatest whole number not above a fraction
 pub record Floor (q : Frac) (h : ℤ) : Type 0 where
@@ -107,41 +104,16 @@ floor_size_by n zero k h = omega arith
 floor_size_by (pos n) (suc d) k h = div-le_of_le-mul (suc d) (omega arith)
 floor_size_by (negsuc n) (suc d) k h = omega (arith, (div-lt_iff_lt-mul {k = suc d} {x = n} {y = k} (omega arith)).1 (omega arith))
 
--- ---- the machine's division by a positive number
-pub divisor_bits : (w : Width) (d : ℤ) → pos 0 <ℤ d → 0 < of_z w d
-divisor_bits w (pos m) h = omega (arith, lt_to h (nat 0) (nat m))
-divisor_bits w (negsuc m) h = absurd h.lt
-
-mag_neg : (r : ℕ) {a : ℕ} → r ≤ suc a → mag (neg_ℤ (pos r)) ≤ a
-mag_neg zero h = omega arith
-mag_neg (suc r) h = omega arith
-
-mag_quot : (n d : ℤ) → pos 0 <ℤ d → mag (quot_z n d) ≤ mag n
-mag_quot (pos a) (pos b) h = div-le_self a b
-mag_quot (negsuc a) (pos b) h = mag_neg (suc a / b) (div-le_self (suc a) b)
-mag_quot (pos a) (negsuc b) h = absurd h.lt
-mag_quot (negsuc a) (negsuc b) h = absurd h.lt
-
-pub quot_fits : {w : Width} {n d : ℤ} → SFits w n → pos 0 <ℤ d → SFits w (quot_z n d)
-quot_fits {w} {n} {d} f h = sfits_le (mag_quot n d h) f
-
--- ---- the three ways of `floor_div`
+-- ---- the two ways of `floor_div`
 pub floor_none : (n d : ℤ) → d ≤ℤ pos 0 → pos 0 ≡ floor_div n d
 unfolding floor_div
 floor_none n (negsuc d) h = refl
 floor_none n (pos zero) h = refl
 floor_none n (pos (suc d)) h = absurd (omega (arith, le_to h (nat (suc d)) (nat 0)))
 
-pub floor_up : (n d : ℤ) → pos 0 ≤ℤ n → pos 0 <ℤ d → quot_z n d ≡ floor_div n d
+pub floor_some : (n d : ℤ) → pos 0 <ℤ d → int_div_euclid n d ≡ floor_div n d
 unfolding floor_div
-floor_up n (negsuc d) h k = absurd k.lt
-floor_up n (pos zero) h k = absurd k.lt
-floor_up (pos n) (pos (suc d)) h k = refl
-floor_up (negsuc n) (pos (suc d)) h k = absurd h.le
-
-pub floor_down : (n d : ℤ) → n <ℤ pos 0 → pos 0 <ℤ d → negsuc 0 -ℤ quot_z (negsuc 0 -ℤ n) d ≡ floor_div n d
-unfolding floor_div
-floor_down n (negsuc d) h k = absurd k.lt
-floor_down n (pos zero) h k = absurd k.lt
-floor_down (pos n) (pos (suc d)) h k = absurd (omega (arith, lt_to h (nat n) (nat 0)))
-floor_down (negsuc n) (pos (suc d)) h k = rw (turn_negsuc n) (turn_pos (n / suc d))
+floor_some n (negsuc d) h = absurd h.lt
+floor_some n (pos zero) h = absurd h.lt
+floor_some (pos n) (pos (suc d)) h = refl
+floor_some (negsuc n) (pos (suc d)) h = refl

@@ -161,9 +161,3 @@ le_to {x} {y} h a b = omega (arith, parts_le x y h.le, a.ok, b.ok)
 
 pub lt_to : {x y : ℤ} → x <ℤ y → (a : Is x) (b : Is y) → a.p + b.n < b.p + a.n
 lt_to {x} {y} h a b = omega (arith, parts_lt x y h.lt, a.ok, b.ok)
-
--- ---- the size of a number that is not positive is its opposite
-pub neg_nat_abs : (z : ℤ) → z ≤ℤ pos 0 → neg_ℤ z ≡ pos (nat_abs z)
-neg_nat_abs (pos zero) h = refl
-neg_nat_abs (pos (suc n)) h = absurd (omega (arith, le_to h (nat (suc n)) (nat 0)))
-neg_nat_abs (negsuc n) h = refl

@@ -4,7 +4,6 @@ pub mod Int
 pub mod Machine
 pub mod Range
 pub mod Ring
-pub mod Turns
 pub mod Twos
 pub mod Table
 pub mod Placed

@@ -1,7 +1,6 @@
 -- docs/RULES.md, "Road file": writing.
 use Rattle.std.specs.Prelude.{ℕ, List}
-use Rattle.terms.specs.Answers.{unless, room_for, written}
-use Rattle.terms.specs.declared.Answer.{Answer}
+use Rattle.terms.specs.Answers.{unless, room_for, written, Answer}
 use Rattle.road.specs.declared.Road.{Road}
 use Rattle.road.specs.Road.{road_verdict}
 use Rattle.file.specs.File.{byte_at, file_length}

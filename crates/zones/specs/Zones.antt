@@ -1,11 +1,9 @@
 -- docs/RULES.md, "Marks and zones": the zones of a bit, all longest runs of stations with that bit.
-use Rattle.std.specs.Prelude.{ℕ, zero, suc, ◌+◌, ◌*◌, ◌/◌, ◌%◌, ◌^◌, ◌≤◌, Bool, not, cond, ◌&&◌, List, [], ◌∷◌, ◌++◌, ltb, eqb, length, get_or}
+use Rattle.std.specs.Prelude.{ℕ, zero, suc, ◌+◌, ◌*◌, ◌/◌, ◌%◌, ◌^◌, ◌≤◌, Bool, not, cond, ◌&&◌, List, [], ◌∷◌, ◌++◌, ltb, eqb, length, get_or, Ok, Err}
 use Rattle.whole.specs.Fill.{filled}
-use Rattle.terms.specs.Answers.{list_outside, refuse}
+use Rattle.terms.specs.Answers.{list_outside, refuse, Answer}
 use Rattle.terms.specs.Limits.{last_bit, greatest_list}
-use Rattle.terms.specs.Refusals.{bit_refused, list_refused, zone_room_refused}
-use Rattle.terms.specs.declared.Answer.{Answer}
-use Rattle.terms.specs.declared.Answer.TheVariants.{Number, Refused}
+use Rattle.terms.specs.declared.Refusal.TheVariants.{NoBit, ListOutside, NoZoneRoom}
 
 -- the mark of station i has the bit; beyond the last station there is none
 unfoldable pub has_bit : List ℕ → ℕ → ℕ → Bool
@@ -38,23 +36,21 @@ zone_count marks b (suc n) = zone_count marks b n + cond (begins_at marks b n) 1
 unfoldable pub zones_answer : List ℕ → ℕ → List ℕ → Answer
 zones_answer marks b zones =
     let count = zone_count marks b (length marks) in
-    refuse (ltb last_bit b) bit_refused
-    (refuse (list_outside (length marks)) list_refused
-    (refuse (ltb (length zones) (2 * count)) zone_room_refused
-    (Number count)))
+    refuse (ltb last_bit b) NoBit
+    (refuse (list_outside (length marks)) ListOutside
+    (refuse (ltb (length zones) (2 * count)) NoZoneRoom
+    (Ok count)))
 
 -- two places for each zone, its first and its last station
 abbrev pub pairs_written : List ℕ → Answer → List ℕ → List ℕ
-pairs_written ends (Number count) zones = filled (λ k. get_or ends k 0) 0 (2 * count) zones
-pairs_written ends (Refused k) zones = zones
+pairs_written ends (Ok count) zones = filled (λ k. get_or ends k 0) 0 (2 * count) zones
+pairs_written ends (Err k) zones = zones
 
 -- the zones from place 0 on, ascending, numbers beyond stay; where it is refused all stay
 unfoldable pub zones_list : List ℕ → ℕ → List ℕ → List ℕ
 zones_list marks b zones = pairs_written (zone_ends marks b (length marks)) (zones_answer marks b zones) zones
 
--- ---- what the private `write_zones` asks, which its contract alone cites: the bit and the marks are in their ranges, and the list has
--- two places for each zone
+-- ---- what the private `write` asks, which its contract alone cites: the marks are not too many, and the list has two places for each zone
 pub record ZonesFit (marks : List ℕ) (b : ℕ) (zones : List ℕ) : Type 0 where
-  pub bit : b ≤ last_bit
   pub short : length marks ≤ greatest_list
   pub room : 2 * zone_count marks b (length marks) ≤ length zones

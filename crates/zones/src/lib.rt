@@ -2,103 +2,93 @@
 #![tactic(auto)]
 
 ghost use Rattle.std.specs.Prelude.{◌≡◌, ◌≤◌, ◌<◌, length};
-ghost use Rattle.whole.specs.Placed.{placed, Room, Wrote};
+ghost use Rattle.std.specs.List.{count_by, range_with_len};
+ghost use Rattle.whole.specs.Placed.{placed};
 ghost use Rattle.terms.specs.Limits.{last_bit};
-ghost use Rattle.zones.specs.Zones.{has_bit, begins_at, ends_at, only, zone_ends, zone_count, zones_answer, zones_list, ZonesFit};
+ghost use Rattle.zones.specs.Zones.{has_bit, begins_at, ends_at, zone_ends, zone_count, zones_answer, zones_list, ZonesFit};
 
-use terms::Answer;
+use terms::{Answer, Refusal};
 
-// Whether the mark of station `i` has the bit. Beyond the last station there is none.
-#[tactic(auto, unfolding(crate::specs::Zones::has_bit))]
-fn has_bit(marks: &[u8], bit: u32, i: usize) -> bool
-    requires { bit ≤ last_bit }
-    ensures { result ≡ has_bit marks.now bit i }
-{
-    if i < marks.len() {
-        return (marks[i] >> bit) & 1 == 1;
+// One bit of the marks, whose runs of stations are its zones.
+#[derive(Clone, Copy)]
+struct Layer<'a> {
+    marks: &'a [u8],
+    bit: u32,
+    ghost in_range: { bit ≤ last_bit },
+}
+
+impl Layer<'_> {
+    // Whether the mark of station `i` has the bit. Beyond the last station there is none.
+    #[tactic(auto, unfolding(crate::specs::Zones::has_bit))]
+    fn has(&self, i: usize) -> bool
+        ensures { result ≡ has_bit self.now.marks.now self.now.bit i }
+    {
+        let mark = self.marks.get(i).copied().unwrap_or(0);
+        // the form of document 01: one chosen bit
+        (mark >> self.bit) & 1 == 1
     }
-    false
-}
 
-// Whether a zone begins at station `i`.
-#[tactic(auto, unfolding(crate::specs::Zones::begins_at))]
-fn begins_at(marks: &[u8], bit: u32, i: usize) -> bool
-    requires { bit ≤ last_bit }
-    ensures { result ≡ begins_at marks.now bit i }
-{
-    if i == 0 {
-        return has_bit(marks, bit, i);
+    // Whether a zone begins at station `i`.
+    #[tactic(auto, unfolding(crate::specs::Zones::begins_at))]
+    fn begins_at(&self, i: usize) -> bool
+        ensures { result ≡ begins_at self.now.marks.now self.now.bit i }
+    {
+        self.has(i) && (i == 0 || !self.has(i - 1))
     }
-    has_bit(marks, bit, i) & !has_bit(marks, bit, i - 1)
-}
 
-// Whether a zone ends at station `i`.
-#[tactic(auto, unfolding(crate::specs::Zones::ends_at))]
-fn ends_at(marks: &[u8], bit: u32, i: usize) -> bool
-    requires { (bit ≤ last_bit) × (i < length marks.now) }
-    ensures { result ≡ ends_at marks.now bit i }
-{
-    has_bit(marks, bit, i) & !has_bit(marks, bit, i + 1)
-}
+    // Whether a zone ends at station `i`.
+    #[tactic(auto, using(crate::proofs::Laws::has_bit_beyond), unfolding(crate::specs::Zones::ends_at))]
+    fn ends_at(&self, i: usize) -> bool
+        ensures { result ≡ ends_at self.now.marks.now self.now.bit i }
+    {
+        self.has(i) && !self.has(i + 1)
+    }
 
-// How many zones there are.
-#[tactic(auto, using(crate::proofs::Laws::zones_at_most), unfolding(crate::specs::Zones::zone_count))]
-fn count_zones(marks: &[u8], bit: u32) -> usize
-    requires { bit ≤ last_bit }
-    ensures { result ≡ zone_count marks.now bit (length marks.now) }
-{
-    let mut count: usize = 0;
-    for i in 0..marks.len() {
-        if begins_at(marks, bit, i) {
-            count += 1;
+    // How many zones there are.
+    fn count(&self) -> usize
+        ensures { result ≡ count_by (begins_at self.now.marks.now self.now.bit) (range_with_len 0 (length self.now.marks.now)) }
+    {
+        (0..self.marks.len()).filter(|&i| self.begins_at(i)).count()
+    }
+
+    // Writes the first and the last station of each zone, from place 0 on.
+    #[tactic(auto, using(crate::proofs::Laws::ends_room), unfolding(whole::specs::Placed::placed, crate::specs::Zones::zone_ends))]
+    fn write(&self, list: &mut [u32])
+        requires { ZonesFit self.now.marks.now self.now.bit list.old }
+        ensures { list.new ≡ placed (zone_ends self.now.marks.now self.now.bit (length self.now.marks.now)) 0 list.old }
+    {
+        let mut at = 0;
+        // `i` is the station that is stored
+        for i in 0..self.marks.len() {
+            if self.begins_at(i) {
+                list[at] = i as u32;
+                at += 1;
+            }
+            if self.ends_at(i) {
+                list[at] = i as u32;
+                at += 1;
+            }
         }
-    }
-    count
-}
-
-// Stores a station at the place `at` where the test holds. The answer is the next place.
-#[tactic(auto, unfolding(whole::specs::Placed::placed))]
-fn put_if(test: bool, station: u32, list: &mut [u32], at: usize) -> usize
-    requires { Room (only test station) at list.old }
-    ensures { Wrote (only test station) at result list.old list.new }
-{
-    if test {
-        list[at] = station;
-        return at + 1;
-    }
-    at
-}
-
-// Writes the first and the last station of each zone, from place 0 on.
-#[tactic(auto, unfolding(whole::specs::Placed::placed, crate::specs::Zones::zone_ends))]
-fn write_zones(marks: &[u8], bit: u32, list: &mut [u32])
-    requires { ZonesFit marks.now bit list.old }
-    ensures { list.new ≡ placed (zone_ends marks.now bit (length marks.now)) 0 list.old }
-{
-    let mut at: usize = 0;
-    for i in 0..marks.len() {
-        let station = i as u32;
-        at = put_if(begins_at(marks, bit, i), station, list, at);
-        at = put_if(ends_at(marks, bit, i), station, list, at);
     }
 }
 
 // The zones of a bit: the first and the last station of each, in pairs, ascending, into `list`. The answer is their number.
-#[tactic(auto, using(crate::proofs::Laws::zones_at_most), unfolding(crate::specs::Zones::zones_answer, crate::specs::Zones::zones_list))]
+#[tactic(auto, using(crate::proofs::Laws::zones_at_most, crate::proofs::Laws::zone_count_by, crate::proofs::Laws::zones_list_placed), unfolding(crate::specs::Zones::zones_answer, crate::specs::Zones::zones_list))]
 pub fn zones(marks: &[u8], bit: u32, list: &mut [u32]) -> Answer
     ensures answer { result ≡ zones_answer marks.now bit list.old }
     ensures list { list.new ≡ zones_list marks.now bit list.old }
 {
     if terms::LAST_BIT < bit {
-        return Answer::Refused(terms::BIT_REFUSED);
+        return Err(Refusal::NoBit);
     }
     if terms::list_outside(marks.len()) {
-        return Answer::Refused(terms::LIST_REFUSED);
+        return Err(Refusal::ListOutside);
     }
-    let count = count_zones(marks, bit);
+    let layer = Layer { marks, bit };
+    let count = layer.count();
     if list.len() < 2 * count {
-        return Answer::Refused(terms::ZONE_ROOM_REFUSED);
+        return Err(Refusal::NoZoneRoom);
     }
-    write_zones(marks, bit, list);
-    Answer::Number(count as u32)
+    layer.write(list);
+    Ok(count as u32)
 }

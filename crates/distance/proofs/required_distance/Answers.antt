@@ -5,4 +5,5 @@ use Rattle.distance.proofs.Laws.{metres_small}
 use Rattle.distance.proofs.required_distance.Goals as goal
 
 pub overflow_cast-result : goal.overflow_cast-result
-overflow_cast-result c = omega (arith, metres_small c.args.speed c.args.purpose (to_z w32 (of_z w32 c.args.grade)) (cc) (cc))
+overflow_cast-result c =
+    grind (arith, metres_small c.args.speed c.args.purpose (to_z w32 (of_z w32 c.args.grade)) (cc) (cc))

@@ -1,25 +1,46 @@
--- a number below 256 ^ 3 leaves room for one byte more
-use Rattle.std.proofs.Common.{arith, ◌≡◌, ℕ, suc, ◌+◌, ◌-◌, ◌^◌, ◌≤◌, ◌<◌}
-use native.Mathlib.Nat.{pow-le-pow_right}
-use Rattle.file.specs.File.{number_at}
+-- `number_at`: its bytes with zeros behind them, four in all, make the same number, which is below 256 ^ width.
+use Rattle.std.proofs.Common.{arith, ◌≡◌, ℕ, zero, suc, List, ◌++◌, ◌∷◌, [], ◌+◌, ◌-◌, ◌≤◌, ◌<◌, refl, length, take, drop, ◌∙◌, length-take, length-drop}
+use Rattle.std.proofs.lemmas.List.{get_or_append_left, get_or-append_right, get_or-take, get_or-drop, get_or-replicate}
+use Rattle.std.specs.Int.{w32, from_le_bytes}
+use Rattle.file.specs.File.{byte_at, number_at}
+use Rattle.file.proofs.Numbers.{number_below}
 use Rattle.file.proofs.number_at.Goals as goal
 
--- the number so far leaves room for one byte more
-room : (width k : ℕ) → width ≤ 4 → 0 < k → 256 ^ (width - k) ≤ 256 ^ 3
-room width k w l = pow-le-pow_right {n = 256} (omega arith) {i = width - k} {j = 3} (omega arith)
+module _ (s bytes : List ℕ) where
+  number_of : (at k w n : ℕ) → w ≤ n → ((i : ℕ) → i < w → byte_at bytes (k + i) ≡ byte_at s (at + i)) →
+      ((i : ℕ) → w ≤ i → i < n → byte_at bytes (k + i) ≡ 0) → number_at bytes k n ≡ number_at s at w
+  unfolding number_at
+  number_of at k zero zero l f z = refl
+  number_of at k (suc w) zero l f z = absurd (omega arith)
+  number_of at k zero (suc n) l f z =
+      let rest = number_of at (k + 1) zero n (omega arith) (λ i m. absurd (omega arith)) (λ i m u. grind (arith, z (1 + i))) in
+      let here : byte_at bytes k ≡ 0 = grind (arith, z 0) in
+      omega arith
+  number_of at k (suc w) (suc n) l f z =
+      let rest = number_of (at + 1) (k + 1) w n (omega arith) (λ i m. grind (arith, f (1 + i))) (λ i m u. grind (arith, z (1 + i))) in
+      let here : byte_at bytes k ≡ byte_at s at = grind (arith, f 0) in
+      omega arith
 
-pub overflow_mul-number : goal.overflow_mul-number
-overflow_mul-number c = omega (arith, room c.args.width c.loop-k.k)
-
-pub overflow_add-number-in-loop-k : goal.overflow_add-number-in-loop-k
-overflow_add-number-in-loop-k c = omega (arith, room c.args.width c.loop-k.k, c.type_inv.file (c.args.at + (c.loop-k.k - 1)))
-
-pub loop-k-preserved : goal.loop-k-preserved
+four : (bytes : List ℕ) → from_le_bytes w32 bytes ≡ number_at bytes 0 4
 unfolding number_at
-loop-k-preserved c =
+four bytes = omega arith
+
+abbrev zeros : List ℕ
+zeros = 0 ∷ 0 ∷ 0 ∷ 0 ∷ []
+
+padded : (s xs : List ℕ) (at w n : ℕ) → w ≤ 4 → at + w ≤ length s → xs ≡ take (at + w - at) (drop at s) →
+    n ≡ from_le_bytes w32 (xs ++ drop w zeros) → n ≡ number_at s at w
+padded s xs at w n l m e p =
+    let all : at + w - at ≡ w = omega arith in
+    let front = rw all at e in
+    let size : length xs ≡ w = rw front (simp (length-take, length-drop) (omega arith)) in
+    p ∙ four _
+    ∙ number_of s (xs ++ drop w zeros) at 0 w 4 l
+    (λ i h. let z : 0 + i ≡ i = omega arith in rw (z, get_or_append_left xs (drop w zeros) 0 i (omega arith), front, get_or-take, get_or-drop))
+    (λ i h u. let z : 0 + i ≡ i = omega arith in rw (z, get_or-append_right xs (drop w zeros) w i 0 size h, get_or-drop) (get_or-replicate 4 (w + (i - w)) 0 0 (omega arith)))
+
+pub returns : goal.returns
+returns c =
     let a = c.args in
-    let k = c.loop-k.k in
-    let more : a.width - (k - 1) ≡ suc (a.width - k) = omega arith in
-    let behind : a.at + k ≡ a.at + (k - 1) + 1 = omega arith in
-    let number = rw behind at c.loop-k.invariant.1 in
-    rw more (omega arith, omega arith, omega (arith, c.type_inv.file (a.at + (k - 1))))
+    let e = padded a.file.now _ a.at a.width _ (omega arith) (omega arith) c.copy_from_slice.ensures.after c.from_le_bytes.ensures in
+    (e, omega (arith, number_below a.file.now (λ k. omega (arith, c.type_inv.file k)) a.at a.width))

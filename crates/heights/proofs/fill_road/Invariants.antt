@@ -1,11 +1,6 @@
--- `fill_road`: past `k` curves the walk stands at the end of the last, with the heights filled up to there (`Walked`). The measure is
--- the number of curves left.
-use Rattle.std.proofs.Common.{◌-◌}
+-- `fill_road`: before the curves that are left the walk stands at the end of the last one passed, with the heights filled up to there (`Walked`).
 use Rattle.heights.proofs.Walked.{Walked}
 use Rattle.heights.proofs.fill_road.Given as goal
 
-abbrev pub invariant-loop-k : goal.invariant-loop-k
-invariant-loop-k l = Walked l.road l.k l.at l.initial.list l.list
-
-abbrev pub decreases-loop-k : goal.decreases-loop-k
-decreases-loop-k l = l.count - l.k
+abbrev pub invariant-loop-c : goal.invariant-loop-c
+invariant-loop-c l = Walked l.fn.road l.c-items l.c-index l.at.station l.at.height l.at.grade l.initial.list l.list

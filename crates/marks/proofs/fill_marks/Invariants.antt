@@ -1,4 +1,4 @@
--- `fill_marks`: the places of the stretch from `i` on are filled. The measure is the last station that is left.
+-- `fill_marks`: the places of the stretch from `i` on are filled.
 use Rattle.std.proofs.Common.{◌≡◌, ◌+◌, ◌-◌, ◌≤◌}
 use Rattle.whole.specs.Fill.{filled}
 use Rattle.marks.specs.Marks.{mark_toward}
@@ -7,9 +7,5 @@ use Rattle.marks.proofs.fill_marks.Given as goal
 abbrev pub invariant-loop-i : goal.invariant-loop-i
 invariant-loop-i l = record {
   from_first : l.first ≤ l.i;
-  to_end : l.i ≤ l.first + l.count;
   places : l.list ≡ filled (mark_toward l.heights l.back l.d) l.i (l.first + l.count - l.i) l.fn.list;
 }
-
-abbrev pub decreases-loop-i : goal.decreases-loop-i
-decreases-loop-i l = l.i

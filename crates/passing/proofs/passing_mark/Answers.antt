@@ -1,31 +1,27 @@
--- `passing_mark`: where passing is judged, the sight was searched for up to the distance, and `passing_by_sight` says that it makes the mark;
--- where it is not, the mark does not depend on the sight.
-use Rattle.std.proofs.Common.{◌≡◌, ◌≤◌, ◌<◌, ◌∙◌, ℕ, ℤ, List, length, arith, ap}
-use lib.Dec.{leb→le}
-use Rattle.terms.specs.Answers.{value_or_zero}
-use Rattle.terms.specs.Limits.{greatest_list, greatest_farthest, eye_height, passing_object_height}
-use Rattle.terms.specs.declared.Answer.{Answer}
+-- `passing_mark`: where passing is judged, the sight was searched for up to the distance, and tells whether it is lacking; where it is not
+-- judged, it is not lacking.
+use Rattle.std.proofs.Common.{◌≡◌, arith}
+use mathlib.Core.Bool.{◌&&◌}
+use borrow.Author.Tests.{le-leb, lt-leb}
+use Rattle.terms.specs.Limits.{eye_height, passing_object_height}
 use Rattle.directions.specs.Directions.{forward}
-use Rattle.sight.specs.Sight.{available_sight}
-use Rattle.sight.specs.Operations.{sight_answer}
 use Rattle.sight.proofs.Toward.{toward_forward}
+use Rattle.marks.specs.Marks.{judged, lacking_at}
 use Rattle.marks.proofs.Mark.{sight_value}
-use Rattle.passing.proofs.Laws.{passing_by_sight}
+use Rattle.passing.specs.Passing.{passing_mark}
+use Rattle.passing.proofs.Laws.{shifted}
 use Rattle.passing.proofs.passing_mark.Goals as goal
 use Rattle.passing.proofs.passing_mark.Goals.{then-judged, else-judged}
 
-searched : (heights : List ℤ) (i R s v : ℕ) (a : Answer) → i < length heights → length heights ≤ greatest_list → R ≤ greatest_farthest → s ≡ v →
-    v ≡ value_or_zero a → a ≡ sight_answer heights forward i eye_height passing_object_height R →
-    s ≡ available_sight heights i eye_height passing_object_height R
-searched heights i R s v a on short most e f g =
-    e ∙ f ∙ ap value_or_zero g
-    ∙ sight_value heights i eye_height passing_object_height forward R on short (omega arith) (omega arith) most
-    ∙ toward_forward _ _ _ _ _
-
 pub returns : goal.returns
+unfolding passing_mark
 returns c =
-    passing_by_sight _ _ _ c.if-judged.s (λ t.
+    let hs = c.args.heights.now in let i = c.args.i in let R = c.args.distance in
+    let seen = sight_value hs i eye_height passing_object_height forward R c.requires.2 c.requires.0 (omega arith) (omega arith) c.requires.1 in
+    let lacking : c.if-judged.lacking ≡ (judged hs R i && lacking_at eye_height passing_object_height hs R i) =
     elim c.if-judged.branch [
-      | then-judged w ↦ searched _ _ _ _ _ _ c.requires.2 c.requires.0 c.requires.1 w.s-is w.value_or_zero-s.ensures w.sight.ensures
-      | else-judged w ↦ absurd (omega (arith, leb→le _ _ t))
-    ])
+      | then-judged w ↦
+          simp (w.lacking-is, le-leb _ _ w.if-judged.true, w.value_or_zero.ensures, w.sight.ensures, seen, toward_forward hs i eye_height passing_object_height R)
+      | else-judged w ↦ simp (w.lacking-is, lt-leb _ _ w.if-judged.false)
+    ] in
+    rw (c.from.ensures, c.from-2.ensures, lacking) (shifted (judged hs R i) (lacking_at eye_height passing_object_height hs R i))

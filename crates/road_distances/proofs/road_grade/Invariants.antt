@@ -1,12 +1,9 @@
--- `road_grade`: `steepest` is the steepest grade of the curves from `i` on. The measure is `i`.
-use Rattle.std.proofs.Common.{◌≡◌, ◌≤◌, length}
-use Rattle.road.specs.Road.{curves_of}
-use Rattle.road_distances.specs.RoadDistances.{steepest_grade}
-use Rattle.road_distances.proofs.Laws.{outs_from}
+-- `road_grade`: the road's grade is the steepest of `steepest` and the grades out of the curves from the next one on.
+use Rattle.std.proofs.Common.{◌≡◌, drop, map}
+use Rattle.road.specs.declared.Curve.{Curve}
+use Rattle.road_distances.specs.RoadDistances.{steeper, steepest_grade, road_grade}
 use Rattle.road_distances.proofs.road_grade.Given as goal
 
-abbrev pub invariant-loop-i : goal.invariant-loop-i
-invariant-loop-i l = (l.i ≤ length (curves_of l.road)) × (l.steepest ≡ steepest_grade l.back (outs_from l.road l.i))
-
-abbrev pub decreases-loop-i : goal.decreases-loop-i
-decreases-loop-i l = l.i
+abbrev pub invariant-loop-c : goal.invariant-loop-c
+invariant-loop-c l =
+    road_grade l.fn.road l.back ≡ steeper l.back l.steepest (steepest_grade l.back (map (λ (k : Curve). k.grade_out) (drop l.c-index l.c-items)))
