@@ -1,6 +1,6 @@
 -- Laws of zones. A station with the bit begins a zone or continues one, and ends it or leaves it open; from this the number of
 -- ends follows.
-use mathlib.Core.Path.{◌≡◌, refl, sym, ◌∙◌}
+use mathlib.Core.Path.{◌≡◌, refl, sym}
 use mathlib.Core.Bool.{Bool, true, false, not, cond, ◌&&◌, and-true, and-false}
 use mathlib.Core.List.{List}
 use mathlib.Core.Logic.{⊎_elim}
@@ -17,9 +17,6 @@ use Rattle.terms.specs.Answers.{list_outside, refuse}
 use Rattle.terms.specs.Limits.{last_bit}
 use Rattle.terms.specs.declared.Refusal.TheVariants.{NoZoneRoom}
 use Rattle.std.specs.Prelude.{Ok}
-use Rattle.std.specs.List.{range_with_len, count_by}
-use Rattle.std.proofs.lemmas.List.{map-id}
-use Rattle.std.proofs.lemmas.List.FromFn.{sum_by-map-range_with_len_more}
 use Rattle.zones.specs.Zones.{has_bit, begins_at, ends_at, only, zone_ends, zone_count, zones_answer, zones_list}
 
 -- ---- counting
@@ -62,14 +59,6 @@ module _ (marks : List ℕ) (b : ℕ) where
   begins_or_open zero = rw and-true at (split false (has_bit marks b 0) (has_bit marks b 1))
   begins_or_open (suc n) =
       rw (add-one (suc n)) (split (has_bit marks b n) (has_bit marks b (suc n)) (has_bit marks b (suc (suc n))))
-
-  -- the stations at which a zone begins, as a chain over the stations counts them
-  pub zone_count_by : (n : ℕ) → count_by (begins_at marks b) (range_with_len 0 n) ≡ zone_count marks b n
-  unfolding zone_count
-  zone_count_by zero = refl
-  zone_count_by (suc n) =
-      let more = sum_by-map-range_with_len_more (λ i. one (begins_at marks b i)) (λ i. i) 0 n n (omega arith) in
-      rw add-one at (simp map-id at more) ∙ rw (zone_count_by n) refl
 
   zone_ends_more : (n : ℕ) →
       length (zone_ends marks b (suc n)) ≡ length (zone_ends marks b n) + one (begins_at marks b n) + one (ends_at marks b n)

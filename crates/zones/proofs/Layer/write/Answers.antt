@@ -18,7 +18,7 @@ module _ {ends xs ys zs : List ℕ} {at next : ℕ} (test : Bool) (n : ℕ) (so_
 pub loop-i-preserved : goal.loop-i-preserved
 unfolding zone_ends
 loop-i-preserved c =
-    let ends = zone_ends c.args.self.now.marks.now c.args.self.now.bit c.loop-i.i in
+    let ends = zone_ends c.args.self.marks.now c.args.self.bit c.loop-i.i in
     let first : Wrote (ends ++ only c.begins_at.result c.loop-i.i) 0 c.if-begins_at.at c.args.list.now c.if-begins_at.list =
     elim c.if-begins_at.branch [
       | then-begins_at w ↦ stored _ _ c.loop-i.invariant w.if-begins_at.true w.at-is w.list-is
