@@ -50,13 +50,6 @@ module _ (r : Road) (k l : ℕ) (first second : List ℕ) (e : change_verdict gr
   pub few : r.length ≤ greatest_short_road
   few = (accepted_road {most = greatest_short_road} r (accepted_change greatest_short_road r k l e).0).length_high
 
-  pub marked_first : mark_road_answer greatest_short_road r first ≡ Ok (r.length + 1)
-  marked_first = marked r first (accepted_change greatest_short_road r k l e).0 room
-
-  pub marked_second : mark_road_answer greatest_short_road changed second ≡ Ok (r.length + 1)
-  unfolding with_length
-  marked_second = marked changed second (accepted_change greatest_short_road r k l e).2 room'
-
   pub compared : (out out' : List ℕ) (n : ℕ) → out ≡ left_in r first → out' ≡ left_in changed second →
       n ≡ count_by (λ (p : ℕ × ℕ). not (eqb p.0 p.1)) (take (r.length + 1) (zip out out')) → Ok n ≡ preview_answer r k l first second
   unfolding preview_answer preview_verdict with_length

@@ -5,21 +5,31 @@
 ghost use Rattle.std.specs.Prelude.{◌≡◌, Err, MatchResult};
 ghost use Rattle.terms.specs.Answers.{signed, accepted};
 ghost use Rattle.file.specs.File.{road_in};
+ghost use Rattle.file.specs.Reading.{read_verdict};
 ghost use Rattle.change.specs.Change.{with_length};
 ghost use Rattle.preview_exports.specs.PreviewExports.{change_file_verdict, change_file_answer, change_file_list, preview_file_answer, preview_file_first, preview_file_second};
 
 use road::Road;
 use terms::{Answer, Refusal};
 
-// A road file's road with another length at one of its curves.
-#[tactic(auto, using(file::proofs::Sound::verdict_read, file::proofs::Sound::road_read, file::proofs::Sound::places_in, change::proofs::Laws::accepted_length), unfolding(crate::specs::PreviewExports::change_file_verdict))]
-fn changed_road(file: &[u8], place: u32, length: u32) -> Result<Road, Refusal>
-    ensures { MatchResult result (λ r. (r ≡ with_length (road_in file.now) place length) × (change_file_verdict file.now place length ≡ accepted)) (λ refusal. change_file_verdict file.now place length ≡ Err refusal) }
+// A road file's road.
+#[tactic(auto, using(file::proofs::Sound::verdict_read, file::proofs::Sound::road_read))]
+fn road_of(file: &[u8]) -> Result<Road, Refusal>
+    ensures { MatchResult result (λ r. (r ≡ road_in file.now) × (read_verdict file.now ≡ accepted)) (λ refusal. read_verdict file.now ≡ Err refusal) }
 {
     let read = file::read(file, terms::GREATEST_LONG_ROAD);
     read.verdict?;
-    change::change_verdict(read.road, terms::GREATEST_LONG_ROAD, place, length)?;
-    Ok(change::with_length(read.road, place, length as u16))
+    Ok(read.road)
+}
+
+// It with another length at one of its curves.
+#[tactic(auto, using(file::proofs::Sound::places_in, change::proofs::Laws::accepted_length), unfolding(crate::specs::PreviewExports::change_file_verdict))]
+fn changed_road(file: &[u8], place: u32, length: u32) -> Result<Road, Refusal>
+    ensures { MatchResult result (λ r. (r ≡ with_length (road_in file.now) place length) × (change_file_verdict file.now place length ≡ accepted)) (λ refusal. change_file_verdict file.now place length ≡ Err refusal) }
+{
+    let road = road_of(file)?;
+    change::change_verdict(road, terms::GREATEST_LONG_ROAD, place, length)?;
+    Ok(change::with_length(road, place, length as u16))
 }
 
 // Its file.

@@ -21,7 +21,8 @@ fn mark_up_to<const STATIONS: usize>(road: Road, back: bool, list: &mut [u8]) ->
     road.verdict(STATIONS as u32 - 1)?;
     let grade = road_distances::road_grade(road, back);
     let mut heights = [0i32; STATIONS];
-    let stations = heights::heights(road, &mut heights)? as usize;
+    let _ = heights::heights(road, &mut heights);
+    let stations = road.length as usize + 1;
     let speed = u32::from(road.speed);
     let purpose = u32::from(road.purpose);
     marks::marks(speed, purpose, grade, &heights[..stations], back, list)
