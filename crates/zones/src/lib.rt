@@ -50,7 +50,7 @@ impl Layer<'_> {
         ensures { result ≡ zone_count self.entry.marks.now self.entry.bit (length self.entry.marks.now) }
     {
         let mut count = 0;
-        // a chain of `filter` and `count` takes half as much time again
+        // a chain of `filter` and `count` branches at each mark, and takes up to twice the time
         for i in 0..self.marks.len() {
             if self.begins_at(i) {
                 count += 1;
