@@ -3,11 +3,10 @@
 use Prim.Native.Nat.{ℕ, ◌+◌, ◌≤◌, ◌<◌}
 use mathlib.Core.Bool.{Bool}
 use mathlib.Core.List.{List}
-use mathlib.Core.Path.{◌≡◌, sym, ◌∙◌}
+use mathlib.Core.Path.{◌≡◌, ◌∙◌}
 use native.Mathlib.Omega.{arith}
 use lib.IntN.{ℤ}
 use lib.ListN.{length, take}
-use Rattle.std.specs.Prelude.{Ok}
 use Rattle.terms.specs.Limits.{greatest_long_road}
 use Rattle.terms.specs.Answers.{accepted}
 use Rattle.road.specs.declared.Road.{Road}
@@ -15,8 +14,8 @@ use Rattle.road.specs.Road.{verdict_up_to, road_verdict}
 use Rattle.road.proofs.Accepted.{accepted_road}
 use Rattle.road.proofs.UpTo.{verdict_within}
 use Rattle.road_distances.specs.RoadDistances.{road_grade}
-use Rattle.heights.specs.Heights.{heights_answer, heights_list, own_heights}
-use Rattle.heights.proofs.Filled.{heights_number, own_front}
+use Rattle.heights.specs.Heights.{heights_list, own_heights}
+use Rattle.heights.proofs.Filled.{own_front}
 use Rattle.marks.specs.Marks.{marks_answer, marks_list}
 use Rattle.road_marks.specs.RoadMarks.{mark_road_answer, mark_road_list}
 use Rattle.road_marks.proofs.OwnMarks.{own_answer, own_list}
@@ -28,14 +27,8 @@ module _ (most : ℕ) (r : Road) (taken : verdict_up_to most r ≡ accepted) (kn
   taken_accepted : road_verdict r ≡ accepted
   taken_accepted = verdict_within greatest_long_road most r (omega (arith, within)) within ∙ taken
 
-  pub taken_filled : heights_answer r list ≡ Ok (r.length + 1)
-  taken_filled = heights_number r list taken_accepted (omega (arith, within))
-
-  -- n is the number of stations that were filled in
-  module _ (n : ℕ) (filled : heights_answer r list ≡ Ok n) where
-    all : n ≡ r.length + 1
-    all = let e = sym filled ∙ taken_filled in cc
-
+  -- n is the number of its stations
+  module _ (n : ℕ) (all : n ≡ r.length + 1) where
     pub taken_stations : n ≤ most + 1
     taken_stations = omega (arith, all, within)
 

@@ -12,7 +12,7 @@ use terms::{Answer, LONG_STATIONS, SHORT_STATIONS};
 
 // Marks a road of at most `STATIONS` stations by its own heights, which are filled into a list with a place for each, and by its speed,
 // purpose and grade, in a direction.
-#[tactic(auto, using(crate::proofs::Taken::taken_filled, crate::proofs::Taken::taken_stations, crate::proofs::Taken::taken_list), unfolding(crate::specs::RoadMarks::mark_road_answer, crate::specs::RoadMarks::mark_road_list))]
+#[tactic(auto, using(crate::proofs::Taken::taken_stations, crate::proofs::Taken::taken_list), unfolding(crate::specs::RoadMarks::mark_road_answer, crate::specs::RoadMarks::mark_road_list))]
 fn mark_up_to<const STATIONS: usize>(road: Road, back: bool, list: &mut [u8]) -> Answer
     requires { (1 ≤ STATIONS) × (STATIONS ≤ greatest_list) }
     ensures answer { result ≡ mark_road_answer (STATIONS - 1) road list.old }
